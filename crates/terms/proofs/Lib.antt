@@ -1,0 +1,4 @@
+pub mod Ends
+pub mod Windows
+pub mod Shapes
+pub mod Codes

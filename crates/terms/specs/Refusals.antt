@@ -1,0 +1,26 @@
+-- Every refusal's number, and the details that come with it.
+use mathlib.Core.Path.{_≡_}
+use mathlib.Core.List.{List, [], _∷_}
+use Prim.Native.Nat.{ℕ}
+use Rattle.terms.specs.declared.Refusal.{Refusal}
+use Rattle.terms.specs.declared.Refusal.the-variants.{BeyondReach, NoRoom, Shut, TooManyMoves, WrongMove}
+
+abbrev pub number : Refusal → ℕ
+number BeyondReach = 1
+number NoRoom = 2
+number Shut = 10
+number TooManyMoves = 17
+number (WrongMove place) = 18
+
+-- for 18, the place of the first wrong move
+abbrev pub details : Refusal → List ℕ
+details BeyondReach = []
+details NoRoom = []
+details Shut = []
+details TooManyMoves = []
+details (WrongMove place) = place ∷ []
+
+-- the refusal e has this number and these details
+pub record Says (e : Refusal) (m : ℕ) (ds : List ℕ) : Type 0 where
+  pub numbered : number e ≡ m
+  pub detailed : details e ≡ ds
