@@ -100,6 +100,12 @@ module _ (b : ℕ) (two : 2 ≤ b) where
               omega (arith, ap (number b) is ∙ number-push b fs e, parts .1 .0))
           (from-the-end es))
 
+-- the largest base to the power of the largest order is 15 ^ 5
+pub power-small : (b k : ℕ) → b ≤ 15 → k ≤ 5 → b ^ k ≤ 759375
+power-small b k low high =
+    let five : 15 ^ k ≤ 15 ^ 5 = pow-le-pow-right {n = 15} (omega arith) high in
+    le-trans (pow-le-pow-left low k) five
+
 module _ (n : ℕ) (few : n ≤ 12) where
   items-back : (u : List ℕ) → All (Item n) u → map (item n) (map (digit n) u) ≡ u
   items-back [] h = refl
@@ -130,15 +136,8 @@ module _ (n : ℕ) (few : n ≤ 12) where
   pub code-below : (k : ℕ) (u : List ℕ) → Word n k u → code n u < base n ^ k
   code-below k u w = le-trans (code-lt-length u (w .items)) (pow-le-pow-right (omega arith) (w .short))
 
-  -- and that is at most 15 ^ 5
-  pub power-small : (k : ℕ) → k ≤ 5 → base n ^ k ≤ 759375
-  power-small k small =
-      let fifteen : base n ≤ 15 = omega arith in
-      let five : 15 ^ k ≤ 15 ^ 5 = pow-le-pow-right {n = 15} (omega arith) small in
-      le-trans (pow-le-pow-left fifteen k) five
-
   pub code-small : (u : List ℕ) → All (Item n) u → length u ≤ 5 → code n u < 759375
-  code-small u items short = le-trans (code-below 5 u (record { items = items; short = short })) (power-small 5 (omega arith))
+  code-small u items short = le-trans (code-below 5 u (record { items = items; short = short })) (power-small (base n) 5 (omega arith) (omega arith))
 
   -- one item more at the end
   pub code-push : (u : List ℕ) (x : ℕ) → code n (u ++ (x ∷ [])) ≡ code n u * base n + digit n x

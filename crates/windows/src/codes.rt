@@ -11,6 +11,16 @@ use crate::marks::END_MARK;
 use crate::marks::START_MARK;
 use crate::values::Word;
 
+// The power of a base and an order that an alphabet may have.
+fn power(base: u32, order: usize) -> u32
+    requires low { ⌜ base ≤ 15 ⌝ }
+    requires high { ⌜ order ≤ 5 ⌝ }
+    ensures value { λ r. ⌜ r ≡ base ^ order ⌝ }
+    ensures bound { λ r. ⌜ r ≤ 759375 ⌝ }
+{
+    base.pow(order as u32)
+}
+
 impl Alphabet {
     // B, the base in which a word's digits are read.
     pub fn base(&self) -> u32
@@ -24,7 +34,7 @@ impl Alphabet {
         ensures value { λ r. ⌜ r ≡ the-base (now (self .entry) .moves) ^ now (self .entry) .order ⌝ }
         ensures bound { λ r. ⌜ r ≤ 759375 ⌝ }
     {
-        self.base().pow(self.order as u32)
+        power(self.base(), self.order)
     }
 
     // The digit of a move or a mark; nothing for any other byte.

@@ -1,0 +1,14 @@
+pub mod Splits
+pub mod Parts
+pub mod Loops
+pub mod Masks
+pub mod Nodes
+pub mod RouteLaws
+pub mod Windows
+pub mod Bits
+pub mod Standings
+pub mod LoopStandings
+pub mod Computed
+pub mod Rows
+pub mod Arrays
+pub mod Checked
