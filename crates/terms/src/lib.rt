@@ -11,6 +11,14 @@ pub enum Refusal {
     NoRoom,
     // The book is shut: its number of moves or its order is not allowed.
     Shut,
+    // A table of no node, or of more than 32.
+    NodeCount,
+    // The first wrong node of a table, and its lowest wrong field: 2 its kind, 3 and 4 its numbers.
+    WrongNode { node: usize, field: u8 },
+    // The model rack's reach is below what the tree's keys need.
+    ModelReach,
+    // The tree has more rows than the model rack has room for.
+    ModelRoom,
     // A play of more than 32 moves.
     TooManyMoves,
     // The move at this place, counted from 1, is the first outside 1 to n.
@@ -26,6 +34,10 @@ impl Refusal {
             Refusal::BeyondReach => 1,
             Refusal::NoRoom => 2,
             Refusal::Shut => 10,
+            Refusal::NodeCount => 11,
+            Refusal::WrongNode { .. } => 12,
+            Refusal::ModelReach => 13,
+            Refusal::ModelRoom => 14,
             Refusal::TooManyMoves => 17,
             Refusal::WrongMove { .. } => 18,
         }

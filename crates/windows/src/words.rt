@@ -1,6 +1,6 @@
 // Making words and reading them.
 ghost use mathlib.Core.Path.{_≡_};
-ghost use mathlib.Core.List.{_++_};
+ghost use mathlib.Core.List.{[], _∷_, _++_};
 ghost use Prim.Native.Nat.{_≤_, _<_};
 ghost use lib.ListN.{length, take, drop};
 ghost use Rattle.std.specs.Options.{Cases};
@@ -42,6 +42,21 @@ impl Word {
             return None;
         }
         Some(Word::of(items))
+    }
+
+    // This word with one item more at its end; nothing where it has five already.
+    pub fn pushed(&self, item: u8) -> Option<Word>
+        ensures { λ r. ⌜ Cases r (length (word-items (now (self .entry))) ≡ 5) (λ w. word-items w ≡ word-items (now (self .entry)) ++ (item ∷ [])) ⌝ }
+    {
+        if self.len >= 5 {
+            return None;
+        }
+        let mut items = self.items;
+        items[self.len] = item;
+        Some(Word {
+            items,
+            len: self.len + 1,
+        })
     }
 
     pub fn items(&self) -> &[u8]

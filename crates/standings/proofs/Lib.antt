@@ -1,0 +1,4 @@
+pub mod Closures
+pub mod Masks
+pub mod Questions
+pub mod SubWords
