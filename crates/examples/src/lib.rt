@@ -9,5 +9,5 @@ pub fn proved_examples() -> usize
     ensures hold { λ _. ⌜ All Holds examples ⌝ }
     ensures count { λ r. ⌜ r ≡ length examples ⌝ }
 {
-    8
+    14
 }

@@ -126,8 +126,8 @@ module _ (n k : ℕ) (few : n ≤ 12) where
   parted u moves =
       ⊎-elim none
       (λ (v, x, is).
-          let parts = all-before-last (Move n) v x (subst (Moves n) is moves) in
-          behind v x is (parts .0) (parts .1) (ap (code n) is ∙ code-of-push n k few v x (parts .1)) (ap length is ∙ length-push v x))
+      let parts = all-before-last (Move n) v x (subst (Moves n) is moves) in
+      behind v x is (parts .0) (parts .1) (ap (code n) is ∙ code-of-push n k few v x (parts .1)) (ap length is ∙ length-push v x))
       (from-the-end u)
 
   -- a parent whose code is below c has its words below c * base
@@ -162,11 +162,11 @@ module _ (n k : ℕ) (few : n ≤ 12) where
             ⊎-elim
             (λ low. h .done (v ++ (x ∷ [])) moves short (omega (arith, below-multiple c (code n v) x (parts .1 .1) low)))
             (λ high.
-                let less : code n v < e = ⊎-elim (λ y. y) (λ y. absurd (omega (arith, above-multiple e (code n v) x y, parts .1 .0))) (cases-lt (code n v) e) in
-                let fits : length v ≤ k = omega (arith, length-push v x) in
-                let small : code n v < e * base n + 1 = omega (arith, below-multiple e (code n v) 0 (omega arith) less, mul-le-mul-right {m = 1} {n = base n} (code n v) (omega arith)) in
-                let gone = subst (Standing t (m + 1) v) (free v (parts .0) fits high less) (before (parts .0) fits small) in
-                subst (Standing t (m + 1) (v ++ (x ∷ []))) (sym (h .pending (v ++ (x ∷ [])) moves short (omega (arith, above-multiple c (code n v) x high, parts .1 .0)))) (stands-none v x gone))
+            let less : code n v < e = ⊎-elim (λ y. y) (λ y. absurd (omega (arith, above-multiple e (code n v) x y, parts .1 .0))) (cases-lt (code n v) e) in
+            let fits : length v ≤ k = omega (arith, length-push v x) in
+            let small : code n v < e * base n + 1 = omega (arith, below-multiple e (code n v) 0 (omega arith) less, mul-le-mul-right {m = 1} {n = base n} (code n v) (omega arith)) in
+            let gone = subst (Standing t (m + 1) v) (free v (parts .0) fits high less) (before (parts .0) fits small) in
+            subst (Standing t (m + 1) (v ++ (x ∷ []))) (sym (h .pending (v ++ (x ∷ [])) moves short (omega (arith, above-multiple c (code n v) x high, parts .1 .0)))) (stands-none v x gone))
             (cases-lt (code n v) c)
 
     -- every move was tried behind the word with the code c
@@ -179,10 +179,10 @@ module _ (n k : ℕ) (few : n ≤ 12) where
             ⊎-elim
             (λ less. omega (arith, below-multiple c (code n v) x (move .1) less))
             (λ more.
-                ⊎-elim
-                (λ same. omega (arith, ap (λ p. p * base n) same, move .1))
-                (λ other. omega (arith, above-multiple (c + 1) (code n v) x (omega arith), move .0))
-                (cases-eq (code n v) c))
+            ⊎-elim
+            (λ same. omega (arith, ap (λ p. p * base n) same, move .1))
+            (λ other. omega (arith, above-multiple (c + 1) (code n v) x (omega arith), move .0))
+            (cases-eq (code n v) c))
             (cases-lt (code n v) c)
 
     -- no word of at most k moves stands behind a word of k moves
@@ -195,10 +195,10 @@ module _ (n k : ℕ) (few : n ≤ 12) where
             ⊎-elim
             (λ less. omega (arith, below-multiple (code n p) (code n v) x (move .1) less))
             (λ more.
-                ⊎-elim
-                (λ same. omega (arith, ap length (same-word n k few v p moves mp same), long))
-                (λ other. omega (arith, above-multiple (code n p + 1) (code n v) x (omega arith), move .0))
-                (cases-eq (code n v) (code n p)))
+            ⊎-elim
+            (λ same. omega (arith, ap length (same-word n k few v p moves mp same), long))
+            (λ other. omega (arith, above-multiple (code n p + 1) (code n v) x (omega arith), move .0))
+            (cases-eq (code n v) (code n p)))
             (cases-lt (code n v) (code n p))
 
     -- all codes lie below the limit

@@ -34,8 +34,7 @@ module _ (n k : ℕ) (few : n ≤ 12) where
   row-keys-apart v x u w mu su mw sw e =
       let p = base n ^ k in
       let low = code-of-moves u mu su in
-      let high = code-of-moves w mw sw in
-      (
+      let high = code-of-moves w mw sw in (
         sym (digits-div v low) ∙ ap (λ key. key / p) e ∙ digits-div x high,
         same-word u w mu mw (sym (digits-mod v low) ∙ ap (λ key. key % p) e ∙ digits-mod x high),
       )

@@ -1,8 +1,8 @@
 -- Where a rack keeps the standing of a word at a node: the row of the word u at the node v has the key v * B ^ k + code u.
 use mathlib.Core.Path.{_≡_}
 use mathlib.Core.List.{List}
-use Prim.Native.Nat.{ℕ, _+_, _*_, _^_}
-use Rattle.terms.specs.Codes.{Word, base, code}
+use Prim.Native.Nat.{ℕ}
+use Rattle.terms.specs.Codes.{Word}
 use Rattle.tree_laws.specs.declared.Node.{Node}
 use Rattle.tree_laws.specs.declared.Node.the-variants.{Skip, Move as Single, Choice, Sequence, Loop, Parallel}
 use Rattle.row_laws.specs.Rows.{row-key}

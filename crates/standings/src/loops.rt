@@ -1,9 +1,8 @@
 // A route of the first child, then any number of times one of the second and one of the first.
 ghost use mathlib.Core.Path.{_≡_};
 ghost use mathlib.Core.Bool.{cond};
-ghost use mathlib.Core.List.{[]};
 ghost use Prim.Native.Nat.{_+_, _-_, _≤_};
-ghost use lib.Bits.{bitAnd, bitOr};
+ghost use lib.Bits.{bitAnd};
 ghost use lib.ListN.{length, getD, take, drop};
 ghost use Rattle.tree_laws.specs.Boundaries.{a-next, b-next};
 ghost use Rattle.tree_laws.specs.Computed.{has, ors, fresh-start, state-bit, rest-bits, run-standing, loop-standing};
@@ -93,15 +92,8 @@ fn reached<R: Rack>(
     requires within_b { ⌜ end ≤ length (now «b_next») ⌝ }
     ensures { λ r. ⌜ Asked view sound unused (now (rack .entry)) (now (rack .exit)) (now (alphabet .entry)) (now (word .entry)) (λ rows. (r .0 ≡ state-bit (turns .middle) (rows (turns .first)) (rows (turns .second)) (now (word .entry)) (now («a_next» .entry), now («b_next» .entry)) end a-next) × (r .1 ≡ state-bit (turns .middle) (rows (turns .first)) (rows (turns .second)) (now (word .entry)) (now («a_next» .entry), now («b_next» .entry)) end b-next)) ⌝ }
 {
-    let a = start(
-        alphabet,
-        rack,
-        turns.middle,
-        fresh_start(end),
-        turns.second,
-        word,
-        end,
-    )
+    let fresh = fresh_start(end);
+    let a = start(alphabet, rack, turns.middle, fresh, turns.second, word, end)
         | arrived(alphabet, rack, turns.second, word, end, b_next);
     let b = start(alphabet, rack, turns.middle, 0, turns.first, word, end)
         | arrived(alphabet, rack, turns.first, word, end, a_next);
@@ -135,7 +127,7 @@ fn rests<R: Rack>(
     bits
 }
 
-// The word from the start of the loop on, or from its middle on: whether it may end the loop, and whether it may stop before the end.
+// From the start or the middle of the loop: whether the word may end the loop, and whether it may stop before the end.
 fn run<R: Rack>(alphabet: &Alphabet, rack: &mut R, turns: Turns, word: &[u8]) -> u32
     requires { ⌜ length (now word) ≤ 5 ⌝ }
     ensures { λ r. ⌜ Asked view sound unused (now (rack .entry)) (now (rack .exit)) (now (alphabet .entry)) (now (word .entry)) (λ rows. r ≡ run-standing (turns .middle) (rows (turns .first)) (rows (turns .second)) (now (word .entry))) ⌝ }

@@ -4,16 +4,16 @@ ghost use Rattle.standings.specs.Rows.{RowRead};
 use racks::Rack;
 use windows::Alphabet;
 
-// The bits of a standing. The word stands somewhere in a route of the node:
+// The bits of a standing. The word lies in a route of the node.
 pub(crate) const CONTAINED: u32 = 1;
 
-// at the front of one,
+// The word is the beginning of a route.
 pub(crate) const BEGINS: u32 = 2;
 
-// at the end of one,
+// The word is the end of a route.
 pub(crate) const ENDS: u32 = 4;
 
-// and it is one.
+// The word is a whole route.
 pub(crate) const WHOLE: u32 = 8;
 
 // The number in the row of the word at the node, 0 where the bytes are no word.

@@ -50,13 +50,13 @@ module _ (n : ℕ) (few : n ≤ 12) where
       ⊎-elim
       (λ e. let is : item n d ≡ start-mark = rw (eq-eqb d (n + 1) e) in (inr (inl is), ap (digit n) is ∙ sym e))
       (λ other.
-          ⊎-elim
-          (λ e. let is : item n d ≡ end-mark = rw (ne-eqb d (n + 1) other, eq-eqb d (n + 2) e) in (inr (inr is), ap (digit n) is ∙ sym e))
-          (λ neither.
-              let is : item n d ≡ d = rw (ne-eqb d (n + 1) other, ne-eqb d (n + 2) neither) in
-              let move : Move n d = omega arith in
-              (inl (subst (Move n) (sym is) move), ap (digit n) is ∙ digit-move d move))
-          (cases-eq d (n + 2)))
+      ⊎-elim
+      (λ e. let is : item n d ≡ end-mark = rw (ne-eqb d (n + 1) other, eq-eqb d (n + 2) e) in (inr (inr is), ap (digit n) is ∙ sym e))
+      (λ neither.
+      let is : item n d ≡ d = rw (ne-eqb d (n + 1) other, ne-eqb d (n + 2) neither) in
+      let move : Move n d = omega arith in
+      (inl (subst (Move n) (sym is) move), ap (digit n) is ∙ digit-move d move))
+      (cases-eq d (n + 2)))
       (cases-eq d (n + 1))
 
   pub positive : (u : List ℕ) → All (Item n) u → Positive (base n) (map (digit n) u)
@@ -72,10 +72,10 @@ module _ (b : ℕ) (two : 2 ≤ b) where
   digits-back =
       by-ends (λ ds. Positive b ds → digitsOf b (number b ds) ≡ ds)
       (λ es d before h.
-          let parts = all-before-last (λ x. (1 ≤ x) × (x < b)) es d h in
-          let last = number-last es d (parts .1 .1) in
-          let more : 0 < number b (es ++ (d ∷ [])) = rw (number-push b es d) (omega (arith, parts .1 .0)) in
-          digitsOf-step b (number b (es ++ (d ∷ []))) two more ∙ ap (λ m. digitsOf b m ++ (number b (es ++ (d ∷ [])) % b ∷ [])) (last .0) ∙ ap (λ l. l ++ (number b (es ++ (d ∷ [])) % b ∷ [])) (before (parts .0)) ∙ ap (λ x. es ++ (x ∷ [])) (last .1))
+      let parts = all-before-last (λ x. (1 ≤ x) × (x < b)) es d h in
+      let last = number-last es d (parts .1 .1) in
+      let more : 0 < number b (es ++ (d ∷ [])) = rw (number-push b es d) (omega (arith, parts .1 .0)) in
+      digitsOf-step b (number b (es ++ (d ∷ []))) two more ∙ ap (λ m. digitsOf b m ++ (number b (es ++ (d ∷ [])) % b ∷ [])) (last .0) ∙ ap (λ l. l ++ (number b (es ++ (d ∷ [])) % b ∷ [])) (before (parts .0)) ∙ ap (λ x. es ++ (x ∷ [])) (last .1))
       (λ h. refl)
 
   -- more digits write a larger number
@@ -83,22 +83,22 @@ module _ (b : ℕ) (two : 2 ≤ b) where
   longer-larger =
       by-ends (λ ds. (es : List ℕ) → Positive b ds → Positive b es → length ds < length es → number b ds < number b es)
       (λ ds d before es h k l.
-          let front = all-before-last (λ x. (1 ≤ x) × (x < b)) ds d h in
-          ⊎-elim
-          (λ none. absurd (omega (arith, ap length none)))
-          (λ (fs, e, is).
-              let parts = all-before-last (λ x. (1 ≤ x) × (x < b)) fs e (subst (Positive b) is k) in
-              let less : number b ds < number b fs = before fs (front .0) (parts .0) (omega (arith, length-push ds d, ap length is ∙ length-push fs e)) in
-              let scaled : (number b ds + 1) * b ≤ number b fs * b = mul-le-mul-right b (omega arith) in
-              omega (arith, number-push b ds d, ap (number b) is ∙ number-push b fs e, scaled, add-mul (number b ds) 1 b, front .1 .1))
-          (from-the-end es))
+      let front = all-before-last (λ x. (1 ≤ x) × (x < b)) ds d h in
+      ⊎-elim
+      (λ none. absurd (omega (arith, ap length none)))
+      (λ (fs, e, is).
+      let parts = all-before-last (λ x. (1 ≤ x) × (x < b)) fs e (subst (Positive b) is k) in
+      let less : number b ds < number b fs = before fs (front .0) (parts .0) (omega (arith, length-push ds d, ap length is ∙ length-push fs e)) in
+      let scaled : (number b ds + 1) * b ≤ number b fs * b = mul-le-mul-right b (omega arith) in
+      omega (arith, number-push b ds d, ap (number b) is ∙ number-push b fs e, scaled, add-mul (number b ds) 1 b, front .1 .1))
+      (from-the-end es))
       (λ es h k l.
-          ⊎-elim
-          (λ none. absurd (omega (arith, ap length none)))
-          (λ (fs, e, is).
-              let parts = all-before-last (λ x. (1 ≤ x) × (x < b)) fs e (subst (Positive b) is k) in
-              omega (arith, ap (number b) is ∙ number-push b fs e, parts .1 .0))
-          (from-the-end es))
+      ⊎-elim
+      (λ none. absurd (omega (arith, ap length none)))
+      (λ (fs, e, is).
+      let parts = all-before-last (λ x. (1 ≤ x) × (x < b)) fs e (subst (Positive b) is k) in
+      omega (arith, ap (number b) is ∙ number-push b fs e, parts .1 .0))
+      (from-the-end es))
 
 -- the largest base to the power of the largest order is 15 ^ 5
 pub power-small : (b k : ℕ) → b ≤ 15 → k ≤ 5 → b ^ k ≤ 759375

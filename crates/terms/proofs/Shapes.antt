@@ -9,7 +9,6 @@ use Rattle.std.proofs.shelf.Lists.{same-from-push, length-push}
 use Rattle.terms.proofs.Ends.{from-the-end}
 use Rattle.terms.specs.Words.{Move, Moves, start-mark, end-mark, marked, Contains, Begins, Ends, WindowOf, LongWindow, ShortWindow, IsWindow}
 
-
 pub length-marked : (w : List ℕ) → length (marked w) ≡ length w + 2
 length-marked w = omega (arith, length-append w (end-mark ∷ []))
 
@@ -25,8 +24,8 @@ cut-end : (w before after : List ℕ) → w ++ (end-mark ∷ []) ≡ before ++ a
 cut-end w before after e =
     ⊎-elim inl
     (λ r.
-        let same = same-from-push w (before ++ r .0) end-mark (r .1) (e ∙ ap (λ l. before ++ l) (r .2) ∙ sym (append-assoc before (r .0) (r .1 ∷ []))) in
-        inr (r .0, same .0, r .2 ∙ ap (λ x. r .0 ++ (x ∷ [])) (sym (same .1))))
+    let same = same-from-push w (before ++ r .0) end-mark (r .1) (e ∙ ap (λ l. before ++ l) (r .2) ∙ sym (append-assoc before (r .0) (r .1 ∷ []))) in
+    inr (r .0, same .0, r .2 ∙ ap (λ x. r .0 ++ (x ∷ [])) (sym (same .1))))
     (from-the-end after)
 
 module _ {k : ℕ} {w u : List ℕ} (some : 1 ≤ k) (long : length u ≡ k) (more : k < length (marked w)) where
@@ -48,9 +47,9 @@ module _ {k : ℕ} {w u : List ℕ} (some : 1 ≤ k) (long : length u ≡ k) (mo
   shape-behind before after e =
       ⊎-elim
       (λ none.
-          ⊎-elim (λ empty. absurd (omega (arith, ap length empty)))
-          (λ r. at-back (r .0) (before, r .1) (omega (arith, ap length (r .2) ∙ length-push (r .0) end-mark)) (r .2))
-          (cut-end w before u (e ∙ ap (λ l. before ++ (u ++ l)) none ∙ ap (λ l. before ++ l) (append-nil u))))
+      ⊎-elim (λ empty. absurd (omega (arith, ap length empty)))
+      (λ r. at-back (r .0) (before, r .1) (omega (arith, ap length (r .2) ∙ length-push (r .0) end-mark)) (r .2))
+      (cut-end w before u (e ∙ ap (λ l. before ++ (u ++ l)) none ∙ ap (λ l. before ++ l) (append-nil u))))
       (λ r. inside (before, r .0, r .1 ∙ append-assoc before u (r .0)) long)
       (cut-end w (before ++ u) after (e ∙ sym (append-assoc before u after)))
 

@@ -59,9 +59,9 @@ pub windows-from-cuts : (k : ℕ) (w : List ℕ) (ws : List (List ℕ)) → Cuts
 windows-from-cuts k w ws c =
     ⊎-elim
     (λ long.
-        let many : length ws ≡ length w + 1 - k = c .places long ∙ omega arith in
-        same-lists ws (windows k w) (many ∙ sym (ap length (windows-long k w long) ∙ length-runs k w))
-        (λ p d l. getD-default ws p d [] l ∙ run-is (c .runs long p l) ∙ sym (ap (λ vs. getD vs p d) (windows-long k w long) ∙ getD-runs k w p d (omega arith))))
+    let many : length ws ≡ length w + 1 - k = c .places long ∙ omega arith in
+    same-lists ws (windows k w) (many ∙ sym (ap length (windows-long k w long) ∙ length-runs k w))
+    (λ p d l. getD-default ws p d [] l ∙ run-is (c .runs long p l) ∙ sym (ap (λ vs. getD vs p d) (windows-long k w long) ∙ getD-runs k w p d (omega arith))))
     (λ short. c .short short ∙ sym (windows-short k w short))
     (cases-lt k (length w))
 
@@ -77,12 +77,12 @@ pub has-window : (k : ℕ) (w u : List ℕ) → Has (windows k w) u → WindowOf
 has-window k w u (p, l, at) =
     ⊎-elim
     (λ long.
-        let many : length (windows k w) ≡ length w + 1 - k = ap length (windows-long k w long) ∙ length-runs k w in
-        let r : RunAt w k p u = subst (RunAt w k p) (at []) (cuts-windows k w .runs long p l) in
-        inr (long, r .long, (r .before, r .after, r .split)))
+    let many : length (windows k w) ≡ length w + 1 - k = ap length (windows-long k w long) ∙ length-runs k w in
+    let r : RunAt w k p u = subst (RunAt w k p) (at []) (cuts-windows k w .runs long p l) in
+    inr (long, r .long, (r .before, r .after, r .split)))
     (λ short.
-        let one : p ≡ 0 = omega (arith, ap length (windows-short k w short)) in
-        inl (short, sym (at w) ∙ ap (λ ws. getD ws p w) (windows-short k w short) ∙ ap (λ q. getD (w ∷ []) q w) one))
+    let one : p ≡ 0 = omega (arith, ap length (windows-short k w short)) in
+    inl (short, sym (at w) ∙ ap (λ ws. getD ws p w) (windows-short k w short) ∙ ap (λ q. getD (w ∷ []) q w) one))
     (cases-lt k (length w))
 
 pub members-from-windows : (k : ℕ) (w : List ℕ) (ws : List (List ℕ)) → ws ≡ windows k w → (u : List ℕ) → (Has ws u → WindowOf k w u) × (WindowOf k w u → Has ws u)

@@ -93,8 +93,7 @@ module _ (n k : ℕ) (most : n ≤ 12) where
 
     pub whole-word : rest ≡ 0 → Word n k (drop from items) × (code n (drop from items) ≡ c)
     whole-word none =
-        let digits : digitsOf (base n) c ≡ map (digit n) (drop from items) = s .digits ∙ ap (λ r. digitsOf (base n) r ++ map (digit n) (drop from items)) none in
-        (
+        let digits : digitsOf (base n) c ≡ map (digit n) (drop from items) = s .digits ∙ ap (λ r. digitsOf (base n) r ++ map (digit n) (drop from items)) none in (
           record { items = s .words; short = omega (arith, length-drop from items, s .long, s .few) },
           sym (ap (number (base n)) digits) ∙ number-digitsOf (base n) c (omega arith),
         )

@@ -1,6 +1,6 @@
 -- What one step of a loop of this crate keeps.
 use mathlib.Core.Path.{_≡_, refl, sym, ap, subst, _∙_}
-use mathlib.Core.Bool.{Bool, true, false, not}
+use mathlib.Core.Bool.{Bool, true, false, cond, not}
 use mathlib.Core.List.{List, [], _∷_, _++_, map}
 use Prim.Native.Nat.{ℕ, suc, _+_, _-_, _≤_, _<_}
 use native.Mathlib.Omega.{arith}
@@ -13,7 +13,9 @@ use Rattle.std.specs.declared.option.Option.the-variants.{Some, None}
 use Rattle.std.proofs.shelf.Counted.{map-counting-more}
 use Rattle.std.proofs.shelf.Elements.{all-getD}
 use Rattle.std.proofs.shelf.Tests.{true≢false}
-use Rattle.std.proofs.shelf.Lists.{take-append-le, take-more-set, map-push}
+use Rattle.std.proofs.shelf.Lists.{take-append-le, take-more-set, map-more, map-push}
+use Rattle.std.proofs.shelf.Sums.{sumBy-push}
+use Rattle.std.specs.shelf.Lists.{countBy}
 use Rattle.terms.specs.Words.{Move, Moves, marked, run, FirstWrong}
 use Rattle.windows.specs.Values.{word-items}
 use Rattle.windows.specs.declared.values.Word.{Word}
@@ -52,3 +54,8 @@ none-wrong n w None true moves e = (λ _. moves, λ _. refl)
 none-wrong n w None false moves e = absurd (true≢false (sym e))
 none-wrong n w (Some p) true wrong e = absurd (true≢false e)
 none-wrong n w (Some p) false wrong e = (λ t. absurd (true≢false (sym t)), λ moves. absurd (wrong .wrong (all-getD (Move n) w (p - 1) 0 (omega (arith, wrong .from-one, wrong .inside)) moves)))
+
+-- one window more counted
+pub count-more : (ws : List Word) (i : ℕ) (w : Word) (p : List ℕ → Bool) → i < length ws → w ≡ getD ws i w → countBy p (map word-items (take (i + 1) ws)) ≡ countBy p (map word-items (take i ws)) + cond (p (word-items w)) 1 0
+count-more ws i w p inside read =
+    ap (countBy p) (map-more word-items ws i w inside ∙ ap (λ x. map word-items (take i ws) ++ (word-items x ∷ [])) (sym read)) ∙ sumBy-push (λ x. cond (p x) 1 0) (map word-items (take i ws)) (word-items w)

@@ -3,7 +3,8 @@ ghost use mathlib.Core.Path.{_≡_};
 ghost use mathlib.Core.List.{List, map};
 ghost use Prim.Native.Nat.{ℕ, _+_, _≤_};
 ghost use lib.ListN.{length, take};
-ghost use Rattle.std.specs.shelf.Lists.{Has};
+ghost use Rattle.std.specs.Finite.{same-text};
+ghost use Rattle.std.specs.shelf.Lists.{Has, countBy};
 ghost use Rattle.terms.specs.Words.{Cuts, WindowOf, marked, runs, windows};
 ghost use Rattle.windows.specs.Values.{word-items, play-moves, cut-windows};
 use crate::alphabet::Alphabet;
@@ -13,7 +14,6 @@ use crate::values::Cut;
 use crate::values::Play;
 use crate::values::Word;
 use crate::words::fill;
-
 
 // A play with both marks: at most 34 items.
 #[derive(Clone, Copy)]
@@ -81,11 +81,31 @@ impl Alphabet {
     }
 }
 
+fn same(a: &[u8], b: &[u8]) -> bool
+    ensures { λ r. ⌜ r ≡ same-text (now (a .entry)) (now (b .entry)) ⌝ }
+{
+    a == b
+}
+
 impl Cut {
     // The windows, in order.
     pub fn windows(&self) -> &[Word]
         ensures { λ r. ⌜ map word-items (now r) ≡ cut-windows (now (self .entry)) ⌝ }
     {
         &self.windows[0..self.len]
+    }
+
+    // At how many places this word stands among the windows.
+    pub fn count(&self, word: &[u8]) -> usize
+        ensures { λ r. ⌜ r ≡ countBy (λ w. same-text w (now (word .entry))) (cut-windows (now (self .entry))) ⌝ }
+    {
+        let windows = self.windows();
+        let mut count = 0;
+        for window in windows {
+            if same(window.items(), word) {
+                count += 1;
+            }
+        }
+        count
     }
 }

@@ -26,7 +26,10 @@ fn windows_of_short_plays(rt: LibcRuntime) -> Result<(), Fail> {
     check_eq(shown(heap, 2, 2, &[1, 2])?.as_str(), " +1 12 2-")?;
     check_eq(shown(heap, 9, 5, &[1, 2, 3])?.as_str(), " +123-")?;
     check_eq(shown(heap, 9, 5, &[1, 2, 3, 4])?.as_str(), " +1234 1234-")?;
-    check_eq(shown(heap, 9, 5, &[1, 2, 3, 4, 5])?.as_str(), " +1234 12345 2345-")
+    check_eq(
+        shown(heap, 9, 5, &[1, 2, 3, 4, 5])?.as_str(),
+        " +1234 12345 2345-",
+    )
 }
 
 // A play of m moves has m + 3 - k windows.
@@ -65,8 +68,14 @@ fn refused_plays() -> Result<(), Fail> {
     check_eq(refusal(1, 2, &[0; 33]), Some(Refusal::TooManyMoves))?;
     check_eq(refusal(12, 5, &[12; 32]), None)?;
     for wrong in [0, 4, 43, 45, 255] {
-        check_eq(refusal(3, 3, &[wrong]), Some(Refusal::WrongMove { place: 1 }))?;
-        check_eq(refusal(3, 3, &[1, 3, wrong, 0]), Some(Refusal::WrongMove { place: 3 }))?;
+        check_eq(
+            refusal(3, 3, &[wrong]),
+            Some(Refusal::WrongMove { place: 1 }),
+        )?;
+        check_eq(
+            refusal(3, 3, &[1, 3, wrong, 0]),
+            Some(Refusal::WrongMove { place: 3 }),
+        )?;
     }
     Ok(())
 }
@@ -100,7 +109,15 @@ fn windows_among_bytes() -> Result<(), Fail> {
     for bytes in [b"+-", b"+\x01", b"\x01-", b"\x01\x02"] {
         check(two.is_window(bytes))?;
     }
-    for bytes in [b"-+", b"++", b"--", b"\x01+", b"-\x01", b"\x01\x03", b"+\x00"] {
+    for bytes in [
+        b"-+",
+        b"++",
+        b"--",
+        b"\x01+",
+        b"-\x01",
+        b"\x01\x03",
+        b"+\x00",
+    ] {
         check(!two.is_window(bytes))?;
     }
     check(three.is_window(b"+-"))?;

@@ -1,4 +1,4 @@
-use mathlib.Core.Path.{_≡_, refl, ap, _∙_}
+use mathlib.Core.Path.{refl, ap}
 use Prim.Native.Nat.{_-_}
 use lib.Bits.{bitAnd}
 use lib.ListN.{getD, take, drop}

@@ -22,6 +22,6 @@ returns g c =
     (λ rows e.
     let sa = rows (t .first) in
     let sb = rows (t .second) in
-    let x = direct-is (t .middle) sa sb u na nb j a-next _ _ (c .fresh-start .ensures) (e .0 .0) in
+    let x = direct-is (t .middle) sa sb u na nb j a-next _ _ (c .fresh-start-fresh .ensures) (e .0 .0) in
     let y = direct-is (t .middle) sa sb u na nb j b-next _ _ refl (e .0 .1) in
     (state-is (t .middle) sa sb u na nb j a-next _ _ _ x y (e .1 .0), state-is (t .middle) sa sb u na nb j b-next _ _ _ y x (e .1 .1)))

@@ -1,4 +1,4 @@
-use mathlib.Core.Path.{_≡_, refl, ap, _∙_}
+use mathlib.Core.Path.{_≡_, ap, _∙_}
 use Prim.Native.Nat.{_^_}
 use native.Mathlib.Omega.{arith}
 use lib.Bits.{bitAnd}
@@ -6,7 +6,7 @@ use lib.ListN.{length}
 use Rattle.std.proofs.shelf.Bits.{one-shl}
 use Rattle.tree_laws.specs.Computed.{ors, mask-bits}
 use Rattle.tree_laws.specs.Selections.{picked, left-out}
-use Rattle.standings.proofs.Questions.{asked-none, asked-row, asked-two, asked-more, asked-so}
+use Rattle.standings.proofs.Questions.{asked-row, asked-two, asked-more, asked-so}
 use Rattle.standings.proofs.SubWords.{picked-word, left-word}
 use Rattle.standings.proofs.parallels.parallel.Needs as need
 

@@ -31,8 +31,7 @@ loop-item-again c =
     let a = c .args .self .now in
     let inv = c .loop-item .inv in
     let read = c .in-Some .ensures tt in
-    let sum = code-more (a .moves) (a .few) (c .args .word .now) (c .loop-item .item-index) (c .loop-item-test .taken) in
-    (
+    let sum = code-more (a .moves) (a .few) (c .args .word .now) (c .loop-item .item-index) (c .loop-item-test .taken) in (
       items-more (a .moves) (a .few) (c .args .word .now) (c .loop-item .item-index) (c .loop-item-test .taken) (omega (arith, a .high)) (inv .0) (read .0),
       rw (inv .1, c .base-base .ensures, c .from .ensures, read .1) (sym sum),
     )

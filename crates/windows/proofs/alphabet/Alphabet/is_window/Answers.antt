@@ -11,8 +11,7 @@ found c = record { front = c .strip-start-starts .ensures; back = c .strip-end-e
 
 pub returns-then-not-sized : need.returns-then-not-sized
 returns-then-not-sized c =
-    let a = c .args .self .now in
-    (
+    let a = c .args .self .now in (
       λ e. absurd (true≢false (sym e)),
       λ is. c .if-not-sized .ensures tt .1 (test-from-window (a .moves) (a .order) (a .few) (a .low) _ _ _ _ _ (found (need.at·returns-then-not-sized c .After-strip-end-ends)) is .0),
     )
@@ -20,8 +19,7 @@ returns-then-not-sized c =
 pub returns : need.returns
 returns c =
     let a = c .args .self .now in
-    let f = found (need.at·returns c .After-strip-end-ends) in
-    (
+    let f = found (need.at·returns c .After-strip-end-ends) in (
       λ e. window-from-test (a .moves) (a .order) (a .few) (a .low) _ _ _ _ _ f (c .sized .ensures .0 (c .if-not-sized .left)) (c .all-moves .ensures .0 e),
       λ is. c .all-moves .ensures .1 (test-from-window (a .moves) (a .order) (a .few) (a .low) _ _ _ _ _ f is .1),
     )

@@ -16,8 +16,8 @@ returns-then-digit-eq0 c =
     let rest = c .loop-rest .rest in
     let same : rest % c .base-base .result ≡ rest % base (a .moves) = ap (λ b. rest % b) (c .base-base .ensures) in
     elim (c .then-digit-eq0 .came) [
-      then-digit-eq0·by·then-digit-eq0 w ↦ nobody-zero (a .moves) (a .order) (a .few) _ _ _ _ (c .loop-rest .inv) (c .loop-rest-test .taken) (sym same ∙ w .if-digit-eq0 .taken)
-    | then-digit-eq0·by·else-digit-eq0·then-from-self w ↦ nobody-long (a .moves) (a .order) (a .few) _ _ _ _ (c .loop-rest .inv) (c .loop-rest-test .taken) (w .if-from-self .taken)
+      | then-digit-eq0·by·then-digit-eq0 w ↦ nobody-zero (a .moves) (a .order) (a .few) _ _ _ _ (c .loop-rest .inv) (c .loop-rest-test .taken) (sym same ∙ w .if-digit-eq0 .taken)
+      | then-digit-eq0·by·else-digit-eq0·then-from-self w ↦ nobody-long (a .moves) (a .order) (a .few) _ _ _ _ (c .loop-rest .inv) (c .loop-rest-test .taken) (w .if-from-self .taken)
     ]
 
 pub loop-rest-less : need.loop-rest-less

@@ -1,0 +1,4 @@
+pub mod Tables
+pub mod Trees
+pub mod Planting
+pub mod Outcome
