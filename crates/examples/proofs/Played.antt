@@ -25,8 +25,8 @@ use Rattle.tree_laws.proofs.Checked.{decides-proper}
 use Rattle.tree_laws.proofs.Computed.{computed-laws}
 use Rattle.tree_laws.proofs.Nodes.{node-is}
 use Rattle.row_laws.specs.Rows.{ListsPlayable}
-use Rattle.row_laws.specs.Windowed.{dressed, Fits}
-use Rattle.row_laws.proofs.Dressed.{Dressing, fits-short, dressing-of-window, playable-window, dressed-decides}
+use Rattle.row_laws.specs.Windowed.{with-marks, Fits}
+use Rattle.row_laws.proofs.WithMarks.{Marking, fits-short, marking-of-window, playable-window, with-marks-decides}
 
 -- ---- tests of all numbers below n, and of all words of at most k of the moves 1 to n
 
@@ -132,11 +132,11 @@ abbrev pub bare : List ℕ → List ℕ
 bare x = kept-by (λ m. ltb m start-mark) x
 
 -- x is moves with their marks, and a window
-abbrev pub is-dressed : ℕ → ℕ → List ℕ → Bool
-is-dressed n k x = ltb (marks-of x) 4 && (moves-only n (bare x) && (fits k (marks-of x) (length (bare x)) && sameBytes x (dressed (marks-of x) (bare x))))
+abbrev pub is-with-marks : ℕ → ℕ → List ℕ → Bool
+is-with-marks n k x = ltb (marks-of x) 4 && (moves-only n (bare x) && (fits k (marks-of x) (length (bare x)) && sameBytes x (with-marks (marks-of x) (bare x))))
 
-abbrev dressing : (n k : ℕ) (x : List ℕ) → is-dressed n k x ≡ true → Dressing n k x
-dressing n k x e =
+abbrev marking : (n k : ℕ) (x : List ℕ) → is-with-marks n k x ≡ true → Marking n k x
+marking n k x e =
     let (four, e₁) = and-parts _ _ e in
     let (moves, e₂) = and-parts _ _ e₁ in
     let (fit, is) = and-parts _ _ e₂ in
@@ -146,16 +146,16 @@ dressing n k x e =
       four = ltb-true (marks-of x) 4 four;
       moves = decides-moves n (bare x) .0 moves;
       fits = decides-fits k (marks-of x) (length (bare x)) .0 fit;
-      is = sameBytes-decides x (dressed (marks-of x) (bare x)) .0 is;
+      is = sameBytes-decides x (with-marks (marks-of x) (bare x)) .0 is;
     }
 
-abbrev pub all-dressed : ℕ → ℕ → List (List ℕ) → Bool
-all-dressed n k [] = true
-all-dressed n k (x ∷ xs) = is-dressed n k x && all-dressed n k xs
+abbrev pub all-with-marks : ℕ → ℕ → List (List ℕ) → Bool
+all-with-marks n k [] = true
+all-with-marks n k (x ∷ xs) = is-with-marks n k x && all-with-marks n k xs
 
-dressings : (n k : ℕ) (xs : List (List ℕ)) → all-dressed n k xs ≡ true → All (Dressing n k) xs
-dressings n k [] e = tt
-dressings n k (x ∷ xs) e = let (here, rest) = and-parts _ _ e in (dressing n k x here, dressings n k xs rest)
+markings : (n k : ℕ) (xs : List (List ℕ)) → all-with-marks n k xs ≡ true → All (Marking n k) xs
+markings n k [] e = tt
+markings n k (x ∷ xs) e = let (here, rest) = and-parts _ _ e in (marking n k x here, markings n k xs rest)
 
 abbrev pub same : Bool → Bool → Bool
 same a b = cond a b (not b)
@@ -170,7 +170,7 @@ from-cond false b e h = absurd (false≢true h)
 
 -- where u with the marks i is a window, the bit of the standing s tells whether it is listed
 abbrev pub agrees : ℕ → List (List ℕ) → List ℕ → ℕ → ℕ → Bool
-agrees k ws u s i = cond (fits k i (length u)) (same (has s (2 ^ i)) (listed (dressed i u) ws)) true
+agrees k ws u s i = cond (fits k i (length u)) (same (has s (2 ^ i)) (listed (with-marks i u) ws)) true
 
 abbrev pub agrees-at : List Node → ℕ → List (List ℕ) → List ℕ → Bool
 agrees-at t k ws u = below 4 (agrees k ws u (root-standing t u))
@@ -202,38 +202,38 @@ range-from-test n k t e =
     record { few = leb-true n 12 few; wide = leb-true 2 k wide; rooted = leb-true 1 (length t) rooted; wf = well-formed n t proper }
 
 abbrev pub plays-test : ℕ → ℕ → List Node → List (List ℕ) → Bool
-plays-test n k t ws = in-range n k t && (all-dressed n k ws && each-word n k (agrees-at t k ws))
+plays-test n k t ws = in-range n k t && (all-with-marks n k ws && each-word n k (agrees-at t k ws))
 
 abbrev pub unplayable-test : ℕ → ℕ → List Node → List ℕ → Bool
-unplayable-test n k t x = in-range n k t && (is-dressed n k x && not (has (root-standing t (bare x)) (2 ^ marks-of x)))
+unplayable-test n k t x = in-range n k t && (is-with-marks n k x && not (has (root-standing t (bare x)) (2 ^ marks-of x)))
 
 module _ (n k : ℕ) (t : List Node) (range : InRange n k t) where
   -- the standing at the root tells whether a window is playable
-  decides-playable : (x : List ℕ) (d : Dressing n k x) → Decides (has (root-standing t (d .word)) (2 ^ d .marks)) (Playable t k x)
+  decides-playable : (x : List ℕ) (d : Marking n k x) → Decides (has (root-standing t (d .word)) (2 ^ d .marks)) (Playable t k x)
   decides-playable x d =
       let u = d .word in
       let short : length u ≤ k = fits-short k (d .marks) (length u) (d .fits) in
       let known : Standing t (length t) u (root-standing t u) = standing-known n k t (range .wf) (length t) (length t) (omega arith) (range .rooted) (omega arith) u (d .moves) short in
       subst (λ y. Decides (has (root-standing t u) (2 ^ d .marks)) (Playable t k y)) (sym (d .is))
-      (dressed-decides n k (range .few) (range .wide) t (range .wf) u (root-standing t u) (d .moves) known (d .marks) (d .four) (d .fits))
+      (with-marks-decides n k (range .few) (range .wide) t (range .wf) u (root-standing t u) (d .moves) known (d .marks) (d .four) (d .fits))
 
   module _ (ws : List (List ℕ)) (words : each-word n k (agrees-at t k ws) ≡ true) where
-    decides-has : (x : List ℕ) (d : Dressing n k x) → Decides (has (root-standing t (d .word)) (2 ^ d .marks)) (Has ws x)
+    decides-has : (x : List ℕ) (d : Marking n k x) → Decides (has (root-standing t (d .word)) (2 ^ d .marks)) (Has ws x)
     decides-has x d =
         let u = d .word in
         let i = d .marks in
         let s = root-standing t u in
         let here : agrees k ws u s i ≡ true = below-at 4 (agrees k ws u s) (each-word-at n k (agrees-at t k ws) words u (d .moves) (fits-short k i (length u) (d .fits))) i (d .four) in
-        let agree : has s (2 ^ i) ≡ listed (dressed i u) ws = from-same _ _ (from-cond (fits k i (length u)) _ here (decides-fits k i (length u) .1 (d .fits))) in
-        subst (λ y. Decides (has s (2 ^ i)) (Has ws y)) (sym (d .is)) (decides-at _ _ agree (decides-listed ws (dressed i u)))
+        let agree : has s (2 ^ i) ≡ listed (with-marks i u) ws = from-same _ _ (from-cond (fits k i (length u)) _ here (decides-fits k i (length u) .1 (d .fits))) in
+        subst (λ y. Decides (has s (2 ^ i)) (Has ws y)) (sym (d .is)) (decides-at _ _ agree (decides-listed ws (with-marks i u)))
 
-    exactly : All (Dressing n k) ws → ListsPlayable t k ws
+    exactly : All (Marking n k) ws → ListsPlayable t k ws
     exactly windows x = (
       λ h.
-          let d = all-has (Dressing n k) ws x windows h in
+          let d = all-has (Marking n k) ws x windows h in
           decides-playable x d .0 (decides-has x d .1 h),
       λ p.
-          let d = dressing-of-window n k x (range .wide) (playable-window n k (range .few) (range .wide) t (range .wf) x p) in
+          let d = marking-of-window n k x (range .wide) (playable-window n k (range .few) (range .wide) t (range .wf) x p) in
           decides-has x d .0 (decides-playable x d .1 p),
     )
 
@@ -242,11 +242,11 @@ plays-from-test n k t ws e =
     let (range, e₁) = and-parts _ _ e in
     let (windows, words) = and-parts _ _ e₁ in
     let r = range-from-test n k t range in
-    (r .wf, exactly n k t r ws words (dressings n k ws windows))
+    (r .wf, exactly n k t r ws words (markings n k ws windows))
 
 pub unplayable-from-test : (n k : ℕ) (t : List Node) (x : List ℕ) → unplayable-test n k t x ≡ true → WellFormed n t × (Playable t k x → ⊥)
 unplayable-from-test n k t x e =
     let (range, e₁) = and-parts _ _ e in
     let (window, off) = and-parts _ _ e₁ in
     let r = range-from-test n k t range in
-    (r .wf, not-from-decides _ (decides-playable n k t r x (dressing n k x window)) (not-true _ off))
+    (r .wf, not-from-decides _ (decides-playable n k t r x (marking n k x window)) (not-true _ off))

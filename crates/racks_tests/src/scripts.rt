@@ -1,5 +1,5 @@
 // Writes and removals in turn, at any rack of eight places, beside a plain model.
-use crate::Model;
+use crate::model::Model;
 use list_rack::ListRack;
 use list_rack::ListRackRack;
 use list_rack::Row;

@@ -22,7 +22,7 @@ use Rattle.tree_laws.proofs.Windows.{node-laws}
 use Rattle.row_laws.specs.Lists.{Distinct}
 use Rattle.row_laws.specs.Rows.{key-limit, WindowRow, HasRow, RowsAt, MoreRows, ListsPlayable, PlayableCount}
 use Rattle.row_laws.proofs.Distinct.{distinct-fits, keys-below, keys-below-held, has-keys-below, distinct-keys-below, length-keys-below, held-fits, has-map, map-has, distinct-map}
-use Rattle.row_laws.proofs.Dressed.{moves-below, window-word, playable-window}
+use Rattle.row_laws.proofs.WithMarks.{moves-below, window-word, playable-window}
 use Rattle.row_laws.proofs.Windowed.{node-key-high}
 
 -- the word of a code

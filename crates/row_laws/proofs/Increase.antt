@@ -17,9 +17,9 @@ use Rattle.tree_laws.proofs.Computed.{bits-at, unique-standing}
 use Rattle.tree_laws.proofs.Windows.{node-laws}
 use Rattle.racks.specs.Counts.{held-count-none, held-count-same}
 use Rattle.racks.specs.Views.{held-count, one-if-held}
-use Rattle.row_laws.specs.Growth.{NodeKey, Upto}
+use Rattle.row_laws.specs.Progress.{NodeKey, Upto}
 use Rattle.row_laws.specs.Rows.{HasRow, NodeRow, WindowRow, RowsAt, row-key}
-use Rattle.row_laws.proofs.Dressed.{window-word}
+use Rattle.row_laws.proofs.WithMarks.{window-word}
 use Rattle.row_laws.proofs.Windowed.{node-key-high}
 
 -- only the numbers at keys matter

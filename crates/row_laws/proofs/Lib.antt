@@ -1,7 +1,7 @@
 pub mod Keys
-pub mod Growth
+pub mod Progress
 pub mod Distinct
-pub mod Dressed
+pub mod WithMarks
 pub mod Windowed
 pub mod Counted
 pub mod Increase

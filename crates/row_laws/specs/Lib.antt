@@ -1,4 +1,4 @@
 pub mod Lists
 pub mod Rows
-pub mod Growth
+pub mod Progress
 pub mod Windowed

@@ -26,18 +26,18 @@ use Rattle.tree_laws.specs.declared.Node.the-variants.{Skip, Move as Single, Ch
 use Rattle.tree_laws.proofs.Computed.{computed-laws}
 use Rattle.racks.specs.Views.{View, Emptied, LacksRoom, NoneFrom, Smallest, Unaltered, Written, held-count, held-in, written}
 use Rattle.standings.specs.Rows.{rows-of, first-child, second-child, standing-by}
-use Rattle.row_laws.specs.Growth.{Growing, Standings, Upto}
+use Rattle.row_laws.specs.Progress.{InProgress, Standings, Upto}
 use Rattle.row_laws.specs.Rows.{MoreRows, HasRow, NodeRow, PlayableCount, row-key, key-limit}
 use Rattle.row_laws.proofs.Counted.{more-rows, count-playable}
 use Rattle.row_laws.proofs.Increase.{count-increase, rows-same}
-use Rattle.row_laws.proofs.Growth.{upto-none, upto-same, growing-none, growing-ends, growing-exhausted, growing-skip, growing-same, growing-write, growing-pass, growing-rows, growing-full, growing-tried, contained-from-held, stands-by-tail}
+use Rattle.row_laws.proofs.Progress.{upto-none, upto-same, progress-none, progress-ends, progress-exhausted, progress-skip, progress-same, progress-write, progress-pass, progress-rows, progress-full, progress-tried, contained-from-held, stands-by-tail}
 use Rattle.row_laws.proofs.Keys.{code-of-moves, code-of-push, items-from-moves}
 use Rattle.trees.specs.Planting.{SameSize, Complete, Finished, Underway, NextWord, NextParent, Trying}
 
 module _ (n k : ℕ) (few : n ≤ 12) (t : List Node) (wf : WellFormed n t) where
   pub underway-same : (m d : ℕ) (before after : View) → Unaltered before after → Underway n k t m d before → Underway n k t m d after
   underway-same m d before after same h = record {
-    rows = growing-same n k few t m d (before .number) (after .number) (same .numbers) (h .rows);
+    rows = progress-same n k few t m d (before .number) (after .number) (same .numbers) (h .rows);
     reaches = subst (λ x. key-limit n k t ≤ x) (sym (same .reach)) (h .reaches);
   }
 
@@ -64,9 +64,9 @@ module _ (n k : ℕ) (few : n ≤ 12) (t : List Node) (wf : WellFormed n t) wher
     pub write-step : (r : Result X Refusal) → NextWord n k t m u before → Standing t (m + 1) u s → (key < before .reach → (LacksRoom before key s → ⊥) → isOk r ≡ true) → Cases r (λ _. Written before after key s) (λ _. Unaltered before after) → Cases r (λ _. Underway n k t m (code n u + 1) after) (λ _. MoreRows n k t (before .room))
     write-step (Ok y) next stands accepted wrote = record {
       rows =
-          growing-same n k few t m (code n u + 1) (written (before .number) (row-key n k (m + 1) u) s) (after .number)
+          progress-same n k few t m (code n u + 1) (written (before .number) (row-key n k (m + 1) u) s) (after .number)
           (λ j. wrote .numbers j ∙ ap (λ i. written (before .number) i s j) is-key)
-          (growing-write n k few t m u (next .moves) (next .short) (before .number) s (next .underway .rows) stands);
+          (progress-write n k few t m u (next .moves) (next .short) (before .number) s (next .underway .rows) stands);
       reaches = subst (λ x. key-limit n k t ≤ x) (sym (wrote .reach)) (next .underway .reaches);
     }
     write-step (Err e) next stands accepted same =
@@ -77,7 +77,7 @@ module _ (n k : ℕ) (few : n ≤ 12) (t : List Node) (wf : WellFormed n t) wher
         (λ put-in.
         ⊎-elim
         (λ left. absurd (true≢false (sym (accepted reached (λ l. omega (arith, l .used-up))))))
-        (λ used. more-rows (before .reach) (λ i held. inl (growing-rows n k few t wf m inside (code n u) (before .number) grown i held)) (inl (row put-in)) free used)
+        (λ used. more-rows (before .reach) (λ i held. inl (progress-rows n k few t wf m inside (code n u) (before .number) grown i held)) (inl (row put-in)) free used)
         (cases-lt (held-in before) (before .room)))
         (λ zero. absurd (true≢false (sym (accepted reached (λ l. omega (arith, l .put-in))))))
         (cases-lt 0 s)
@@ -102,7 +102,7 @@ module _ (n k : ℕ) (few : n ≤ 12) (t : List Node) (wf : WellFormed n t) wher
   pass-step m inside x u before after next gone same =
       let rows = next .underway .rows in
       let stands = stands-by-tail n k few t wf m inside (code n (x ∷ u)) (before .number) rows x u (next .moves) (next .short) refl gone in
-      underway-same m (code n (x ∷ u) + 1) before after same (record { rows = growing-pass n k few t m (x ∷ u) (next .moves) (next .short) (before .number) rows stands; reaches = next .underway .reaches })
+      underway-same m (code n (x ∷ u) + 1) before after same (record { rows = progress-pass n k few t m (x ∷ u) (next .moves) (next .short) (before .number) rows stands; reaches = next .underway .reaches })
 
   pub next-same : (m : ℕ) (u : List ℕ) (before after : View) → Unaltered before after → NextWord n k t m u before → NextWord n k t m u after
   next-same m u before after same next = record { moves = next .moves; short = next .short; underway = underway-same m (code n u) before after same (next .underway) }
@@ -138,13 +138,13 @@ module _ (n k : ℕ) (few : n ≤ 12) (t : List Node) (wf : WellFormed n t) wher
 
     pub tried-all : m + 1 ≤ length t → Trying n k t m p c (n + 1) v → Underway n k t m ((c + 1) * base n + 1) v
     tried-all inside trying = record {
-      rows = growing-tried n k few t wf m inside c (v .number) (subst (λ d. Growing n k t m d (v .number)) (sym (add-assoc (c * base n) n 1)) (trying .underway .rows));
+      rows = progress-tried n k few t wf m inside c (v .number) (subst (λ d. InProgress n k t m d (v .number)) (sym (add-assoc (c * base n) n 1)) (trying .underway .rows));
       reaches = trying .underway .reaches;
     }
 
     pub tried-full : m + 1 ≤ length t → k ≤ length p → Trying n k t m p c 1 v → Underway n k t m ((c + 1) * base n + 1) v
     tried-full inside full trying = record {
-      rows = subst (λ d. Growing n k t m ((d + 1) * base n + 1) (v .number)) is (growing-full n k few t wf m inside p (v .number) (trying .moves) full (subst (λ d. Growing n k t m (d * base n + 1) (v .number)) (sym is) (trying .underway .rows)));
+      rows = subst (λ d. InProgress n k t m ((d + 1) * base n + 1) (v .number)) is (progress-full n k few t wf m inside p (v .number) (trying .moves) full (subst (λ d. InProgress n k t m (d * base n + 1) (v .number)) (sym is) (trying .underway .rows)));
       reaches = trying .underway .reaches;
     }
 
@@ -155,7 +155,7 @@ module _ (n k : ℕ) (few : n ≤ 12) (t : List Node) (wf : WellFormed n t) wher
   }
 
   pub next-empty : (m : ℕ) (v : View) → Finished n k t m v → NextWord n k t m [] v
-  next-empty m v h = record { moves = tt; short = omega arith; underway = record { rows = growing-none n k few t m (v .number) (h .rows); reaches = h .reaches } }
+  next-empty m v h = record { moves = tt; short = omega arith; underway = record { rows = progress-none n k few t m (v .number) (h .rows); reaches = h .reaches } }
 
   -- the walk over the rows of the node after the first m, which begin at start
   module _ (m : ℕ) (inside : m + 1 ≤ length t) (start limit from : ℕ) (start-is : start ≡ (m + 1) * base n ^ k) (limit-is : limit ≡ base n ^ k) (v : View) (h : Underway n k t m (from * base n + 1) v) where
@@ -165,14 +165,14 @@ module _ (n k : ℕ) (few : n ≤ 12) (t : List Node) (wf : WellFormed n t) wher
     -- no row is left
     pub walk-ends : from ≤ limit → NoneFrom (v .number) (start + from) → Finished n k t (m + 1) v
     walk-ends le none = record {
-      rows = growing-exhausted n k few t wf m inside from (v .number) (omega arith) (λ u moves short low. none (row-key n k (m + 1) u) (omega (arith, key-there u))) (h .rows);
+      rows = progress-exhausted n k few t wf m inside from (v .number) (omega arith) (λ u moves short low. none (row-key n k (m + 1) u) (omega (arith, key-there u))) (h .rows);
       reaches = h .reaches;
     }
 
     -- the next held key is none of the node's
     pub walk-leaves : (key : ℕ) → from ≤ limit → Smallest (v .number) (start + from) key → start + limit ≤ key → Finished n k t (m + 1) v
     walk-leaves key le next past = record {
-      rows = growing-exhausted n k few t wf m inside from (v .number) (omega arith) (λ u moves short low. next .least (row-key n k (m + 1) u) (omega (arith, key-there u)) (omega (arith, key-there u, code-of-moves n k few u moves short))) (h .rows);
+      rows = progress-exhausted n k few t wf m inside from (v .number) (omega arith) (λ u moves short low. next .least (row-key n k (m + 1) u) (omega (arith, key-there u)) (omega (arith, key-there u, code-of-moves n k few u moves short))) (h .rows);
       reaches = h .reaches;
     }
 
@@ -185,14 +185,14 @@ module _ (n k : ℕ) (few : n ≤ 12) (t : List Node) (wf : WellFormed n t) wher
           held = subst (λ x. 0 < v .number x) back (next .held);
           low = omega arith;
           underway = record {
-            rows = growing-skip n k few t wf m inside from (key - start) (v .number) (omega arith) (λ u moves short from-low below-key. next .least (row-key n k (m + 1) u) (omega (arith, key-there u)) (omega (arith, key-there u))) (h .rows);
+            rows = progress-skip n k few t wf m inside from (key - start) (v .number) (omega arith) (λ u moves short from-low below-key. next .least (row-key n k (m + 1) u) (omega (arith, key-there u)) (omega (arith, key-there u))) (h .rows);
             reaches = h .reaches;
           };
         }
 
     -- every word has its parent before this code
     pub walk-done : limit ≤ from * base n → Finished n k t (m + 1) v
-    walk-done past = record { rows = growing-ends n k few t wf m inside from (v .number) (omega arith) (h .rows); reaches = h .reaches }
+    walk-done past = record { rows = progress-ends n k few t wf m inside from (v .number) (omega arith) (h .rows); reaches = h .reaches }
 
   pub next-parent-same : (m c : ℕ) (before after : View) → Unaltered before after → NextParent n k t m c before → NextParent n k t m c after
   next-parent-same m c before after same h = record {

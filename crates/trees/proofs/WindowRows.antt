@@ -24,13 +24,13 @@ use Rattle.tree_laws.specs.Facts.{Playable, Standing}
 use Rattle.tree_laws.specs.Routes.{WellFormed}
 use Rattle.tree_laws.specs.declared.Node.{Node}
 use Rattle.racks.specs.Views.{View, LacksRoom, Smallest, Unaltered, Written, held-in, written}
-use Rattle.row_laws.specs.Growth.{NodeKey}
+use Rattle.row_laws.specs.Progress.{NodeKey}
 use Rattle.row_laws.specs.Rows.{HasRow, MoreRows, key-limit, row-key}
-use Rattle.row_laws.specs.Windowed.{dressed, Fits, turn, WindowKey}
+use Rattle.row_laws.specs.Windowed.{with-marks, Fits, turn, WindowKey}
 use Rattle.row_laws.proofs.Counted.{more-rows}
-use Rattle.row_laws.proofs.Dressed.{dressed-below, dressed-decides}
+use Rattle.row_laws.proofs.WithMarks.{with-marks-below, with-marks-decides}
 use Rattle.row_laws.proofs.Keys.{code-of-moves, items-from-moves}
-use Rattle.row_laws.proofs.Windowed.{dressed-row, windowed-none, windowed-same, windowed-before, windowed-write, windowed-pass, windowed-skip, windowed-rows, windowed-all}
+use Rattle.row_laws.proofs.Windowed.{with-marks-row, windowed-none, windowed-same, windowed-before, windowed-write, windowed-pass, windowed-skip, windowed-rows, windowed-all}
 use Rattle.trees.specs.Planting.{Step, Finished, Windows, NextWindow, NextRootWord, Complete}
 
 -- the bit of the marks i as the code works it out
@@ -51,17 +51,17 @@ module _ (s i : ℕ) (four : i < 4) where
 module _ (n k : ℕ) (t : List Node) (few : n ≤ 12) (wide : 2 ≤ k) (wf : WellFormed n t) (some : 1 ≤ length t) where
   module _ (u : List ℕ) (s i : ℕ) (four : i < 4) where
     -- what the standing says of the window
-    pub next-playable : (v : View) → NextWindow n k t u s i v → Fits k i (length u) → has s (2 ^ i) ≡ true → Playable t k (dressed i u)
-    next-playable v next fits is = dressed-decides n k few wide t wf u s (next .moves) (next .standing) i four fits .0 is
+    pub next-playable : (v : View) → NextWindow n k t u s i v → Fits k i (length u) → has s (2 ^ i) ≡ true → Playable t k (with-marks i u)
+    next-playable v next fits is = with-marks-decides n k few wide t wf u s (next .moves) (next .standing) i four fits .0 is
 
     -- at this turn there is no playable window
     pub pass-window : (v : View) → (Fits k i (length u) → has s (2 ^ i) ≡ false) → NextWindow n k t u s i v → Windows n k t (turn n i u + 1) v
     pass-window v not next = record {
-      rows = windowed-pass n k t few wide wf some (next .windows .rows) i u four (next .moves) refl (λ fits. not-from-decides (has s (2 ^ i)) (dressed-decides n k few wide t wf u s (next .moves) (next .standing) i four fits) (not fits));
+      rows = windowed-pass n k t few wide wf some (next .windows .rows) i u four (next .moves) refl (λ fits. not-from-decides (has s (2 ^ i)) (with-marks-decides n k few wide t wf u s (next .moves) (next .standing) i four fits) (not fits));
       reaches = next .windows .reaches;
     }
 
-    module _ (key : ℕ) (is-key : key ≡ code n (dressed i u)) (fits : Fits k i (length u)) (says : has s (2 ^ i) ≡ true) where
+    module _ (key : ℕ) (is-key : key ≡ code n (with-marks i u)) (fits : Fits k i (length u)) (says : has s (2 ^ i) ≡ true) where
       write-window : (before after : View) → NextWindow n k t u s i before → Written before after key 1 → Windows n k t (turn n i u + 1) after
       write-window before after next wrote = record {
         rows =
@@ -81,7 +81,7 @@ module _ (n k : ℕ) (t : List Node) (few : n ≤ 12) (wide : 2 ≤ k) (wf : Wel
           (λ left. absurd (refused reached (λ l. omega (arith, l .used-up))))
           (λ used.
           more-rows (before .reach) (windowed-rows n k t few wide wf some h)
-          (subst (λ c. HasRow n k t c) (sym is-key) (dressed-row n k t i u four (next .moves) fits (next-playable before next fits says))) free used)
+          (subst (λ c. HasRow n k t c) (sym is-key) (with-marks-row n k t i u four (next .moves) fits (next-playable before next fits says))) free used)
           (cases-lt (held-in before) (before .room))
 
       -- the write of its row
@@ -113,7 +113,7 @@ module _ (n k : ℕ) (t : List Node) (few : n ≤ 12) (wide : 2 ≤ k) (wf : Wel
       at-node a = (a .word, a .moves, a .short, sym (digits-mod (a .node) (code-of-moves n k few (a .word) (a .moves) (a .short))) ∙ ap (λ key. key % base n ^ k) (sym (a .key-is)) ∙ digits-mod (length t) (next .low))
 
       at-window : WindowKey n k (length t * base n ^ k + c) → (p : List ℕ) × Moves n p × (length p ≤ k) × (code n p ≡ c)
-      at-window a = absurd (omega (arith, a .key-is, dressed-below n few k (a .marks) (a .word) (a .moves) (a .fits), mul-le-mul-right {m = 1} {n = length t} (base n ^ k) some))
+      at-window a = absurd (omega (arith, a .key-is, with-marks-below n few k (a .marks) (a .word) (a .moves) (a .fits), mul-le-mul-right {m = 1} {n = length t} (base n ^ k) some))
 
   -- the number read at the root begins the turns of a word
   pub first-window : (c : ℕ) (w : List ℕ) (s : ℕ) (before after : View) → Word n k w → code n w ≡ c → s ≡ before .number (length t * base n ^ k + c) → Unaltered before after → NextRootWord n k t c before → NextWindow n k t w s 0 after

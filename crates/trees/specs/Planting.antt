@@ -11,7 +11,7 @@ use Rattle.terms.specs.declared.Refusal.{Refusal}
 use Rattle.tree_laws.specs.Facts.{Standing}
 use Rattle.tree_laws.specs.declared.Node.{Node}
 use Rattle.racks.specs.Views.{View}
-use Rattle.row_laws.specs.Growth.{Upto, Growing}
+use Rattle.row_laws.specs.Progress.{Upto, InProgress}
 use Rattle.row_laws.specs.Rows.{RowsAt, key-limit}
 use Rattle.row_laws.specs.Windowed.{Windowed, turn}
 
@@ -34,7 +34,7 @@ pub record Finished (n k : ℕ) (t : List Node) (m : ℕ) (v : View) : Type 0 wh
 
 -- it has also those of the next node whose words have codes below d
 pub record Underway (n k : ℕ) (t : List Node) (m d : ℕ) (v : View) : Type 0 where
-  pub rows : Growing n k t m d (v .number)
+  pub rows : InProgress n k t m d (v .number)
   pub reaches : key-limit n k t ≤ v .reach
 
 -- the word u of at most k moves comes next

@@ -71,7 +71,7 @@ impl Tree {
 
     // Puts in the rows of the longer words. Each is found behind a shorter one, so a walk over the node's own rows
     // finds them all, in the order of their keys.
-    fn grow_longer<R: Rack>(&self, rack: &mut R, m: usize) -> Result<(), Refusal>
+    fn write_longer<R: Rack>(&self, rack: &mut R, m: usize) -> Result<(), Refusal>
         requires { ⌜ m < now self .len ⌝ }
         ensures { λ r. ⌜ Step view sound unused (now (rack .entry)) (now (rack .exit)) (For (now (self .entry)) MoreRows) (For (now (self .entry)) Underway m 1) (For (now (self .entry)) Finished (m + 1)) r ⌝ }
     {
@@ -94,20 +94,20 @@ impl Tree {
     }
 
     // Puts in the rows of the node after the first `m`, that of the empty word first.
-    fn grow<R: Rack>(&self, rack: &mut R, m: usize) -> Result<(), Refusal>
+    fn write_node<R: Rack>(&self, rack: &mut R, m: usize) -> Result<(), Refusal>
         requires { ⌜ m < now self .len ⌝ }
         ensures { λ r. ⌜ Step view sound unused (now (rack .entry)) (now (rack .exit)) (For (now (self .entry)) MoreRows) (For (now (self .entry)) Finished m) (For (now (self .entry)) Finished (m + 1)) r ⌝ }
     {
         self.write_row(rack, m, &[])?;
-        self.grow_longer(rack, m)
+        self.write_longer(rack, m)
     }
 
     // Puts in the rows of all nodes, children before their parents.
-    pub(crate) fn grow_all<R: Rack>(&self, rack: &mut R) -> Result<(), Refusal>
+    pub(crate) fn write_nodes<R: Rack>(&self, rack: &mut R) -> Result<(), Refusal>
         ensures { λ r. ⌜ Step view sound unused (now (rack .entry)) (now (rack .exit)) (For (now (self .entry)) MoreRows) (For (now (self .entry)) Finished 0) (For (now (self .entry)) Finished (now (self .entry) .len)) r ⌝ }
     {
         for m in 0..self.len {
-            self.grow(rack, m)?;
+            self.write_node(rack, m)?;
         }
         Ok(())
     }

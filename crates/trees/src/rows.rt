@@ -16,7 +16,7 @@ impl Tree {
         ensures step { λ r. ⌜ Step view sound unused (now (rack .entry)) (now (rack .exit)) (For (now (self .entry)) MoreRows) (For (now (self .entry)) Finished 0) (For (now (self .entry)) Complete) r ⌝ }
         ensures count { λ r. ⌜ (sound (now (rack .entry)) → For (now (self .entry)) Finished 0 (view (now (rack .entry))) → Cases r (λ c. PlayableCount (tree-nodes (now (self .entry))) (now (self .entry) .alphabet .order) c) (λ _. Unit {0})) ⌝ }
     {
-        self.grow_all(rack)?;
+        self.write_nodes(rack)?;
         let nodes = rack.held();
         self.put_windows(rack)?;
         let all = rack.held();

@@ -8,7 +8,7 @@ ghost use Rattle.std.specs.Orderings.{Decides};
 ghost use Rattle.terms.specs.Codes.{base};
 ghost use Rattle.terms.specs.Words.{start-mark};
 ghost use Rattle.row_laws.specs.Rows.{MoreRows};
-ghost use Rattle.row_laws.specs.Windowed.{dressed, Fits, turn};
+ghost use Rattle.row_laws.specs.Windowed.{with-marks, Fits, turn};
 ghost use Rattle.windows.specs.Values.{word-items};
 ghost use Rattle.trees.specs.Planting.{Step, Finished, Windows, NextWindow, NextRootWord, Complete};
 ghost use Rattle.trees.specs.Trees.{For, tree-nodes};
@@ -55,9 +55,9 @@ fn started(items: &[u8]) -> Option<Word>
 }
 
 // The window of these moves and marks; nothing where they make none.
-fn dress(order: usize, moves: &[u8], marks: u32) -> Option<Word>
+fn with_marks(order: usize, moves: &[u8], marks: u32) -> Option<Word>
     requires { ⌜ order ≤ 5 ⌝ }
-    ensures { λ r. ⌜ BySome r (Fits order marks (length (now (moves .entry))) → ⊥) (λ w. Fits order marks (length (now (moves .entry))) × (word-items w ≡ dressed marks (now (moves .entry)))) ⌝ }
+    ensures { λ r. ⌜ BySome r (Fits order marks (length (now (moves .entry))) → ⊥) (λ w. Fits order marks (length (now (moves .entry))) × (word-items w ≡ with-marks marks (now (moves .entry)))) ⌝ }
 {
     if !fits(order, moves.len(), marks) {
         return None;
@@ -95,7 +95,7 @@ impl Tree {
         if standing & (1 << marks) == 0 {
             return Ok(());
         }
-        let Some(window) = dress(self.alphabet.order(), word, marks) else {
+        let Some(window) = with_marks(self.alphabet.order(), word, marks) else {
             return Ok(());
         };
         let Some(code) = self.alphabet.code(window.items()) else {

@@ -49,6 +49,13 @@ impl Alphabet {
         self.moves
     }
 
+    // Whether each of these bytes is one of the moves 1 to n.
+    pub fn are_moves(&self, items: &[u8]) -> bool
+        ensures { λ r. ⌜ Decides r (Moves (now (self .entry) .moves) (now (items .entry))) ⌝ }
+    {
+        all_moves(self.moves, items)
+    }
+
     pub fn order(&self) -> usize
         ensures { λ r. ⌜ r ≡ now (self .entry) .order ⌝ }
     {

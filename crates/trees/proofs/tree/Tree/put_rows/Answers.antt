@@ -22,21 +22,21 @@ returns g c =
     let view = g .R·Rack .view in
     let sound = g .R·Rack .sound in
     let unused = g .R·Rack .unused in
-    let grown : Step view sound unused (c .args .rack .now) (c .grow-all .last .rack) (MoreRows n k t) (Finished n k t 0) (Finished n k t (tree .len)) (Ok (tt {0})) = subst (Step _ _ _ _ _ _ _ _) (c .in-Continue-grow-all .was tt) (c .grow-all .ensures) in
-    let first : Step view sound unused (c .args .rack .now) (c .grow-all .last .rack) (MoreRows n k t) (Finished n k t 0) (Finished n k t (length t)) (Ok (tt {0})) = subst (λ m. Step view sound unused (c .args .rack .now) (c .grow-all .last .rack) (MoreRows n k t) (Finished n k t 0) (Finished n k t m) (Ok (tt {0}))) (sym (tree-long tree)) grown in
-    let asked : Kept view sound unused (c .grow-all .last .rack) (c .held-nodes .last .self) = record { unaltered = c .held-nodes .ensures .unaltered; stays-sound = c .held-nodes .ensures .stays-sound; memory = c .held-nodes .ensures .memory } in
+    let grown : Step view sound unused (c .args .rack .now) (c .write-nodes .last .rack) (MoreRows n k t) (Finished n k t 0) (Finished n k t (tree .len)) (Ok (tt {0})) = subst (Step _ _ _ _ _ _ _ _) (c .in-Continue-write-nodes .was tt) (c .write-nodes .ensures) in
+    let first : Step view sound unused (c .args .rack .now) (c .write-nodes .last .rack) (MoreRows n k t) (Finished n k t 0) (Finished n k t (length t)) (Ok (tt {0})) = subst (λ m. Step view sound unused (c .args .rack .now) (c .write-nodes .last .rack) (MoreRows n k t) (Finished n k t 0) (Finished n k t m) (Ok (tt {0}))) (sym (tree-long tree)) grown in
+    let asked : Kept view sound unused (c .write-nodes .last .rack) (c .held-nodes .last .self) = record { unaltered = c .held-nodes .ensures .unaltered; stays-sound = c .held-nodes .ensures .stays-sound; memory = c .held-nodes .ensures .memory } in
     let second : Step view sound unused (c .held-nodes .last .self) (c .put-windows .last .rack) (MoreRows n k t) (Finished n k t (length t)) (Complete n k t) (Ok (tt {0})) = subst (Step _ _ _ _ _ _ _ _) (c .in-Continue-put-windows .was tt) (c .put-windows .ensures) in
     let again : Kept view sound unused (c .put-windows .last .rack) (c .held-all .last .self) = record { unaltered = c .held-all .ensures .unaltered; stays-sound = c .held-all .ensures .stays-sound; memory = c .held-all .ensures .memory } in
     record {
       step =
           step-step view sound unused (MoreRows n k t) (Finished n k t 0) (Finished n k t (length t)) (Complete n k t) (tt {0}) (Ok (c .saturating-sub .result)) first
           (question-step view sound unused (MoreRows n k t) (Finished n k t (length t)) (Finished n k t (length t)) (Complete n k t) (Ok (c .saturating-sub .result)) asked
-          (λ s h. finished-same n k (a .few) t (tree-formed tree) (length t) (view (c .grow-all .last .rack)) (view (c .held-nodes .last .self)) (asked .unaltered s) h)
+          (λ s h. finished-same n k (a .few) t (tree-formed tree) (length t) (view (c .write-nodes .last .rack)) (view (c .held-nodes .last .self)) (asked .unaltered s) h)
           (step-step view sound unused (MoreRows n k t) (Finished n k t (length t)) (Complete n k t) (Complete n k t) (tt {0}) (Ok (c .saturating-sub .result)) second
           (no-step view sound unused (MoreRows n k t) (Complete n k t) (Complete n k t) (c .saturating-sub .result) again (λ s h. complete-same n k (a .few) t (tree-formed tree) (view (c .put-windows .last .rack)) (view (c .held-all .last .self)) (again .unaltered s) h))));
       count = λ s h.
           let s1 = first .stays-sound s in
-          let nodes = view (c .grow-all .last .rack) in
+          let nodes = view (c .write-nodes .last .rack) in
           let all = view (c .put-windows .last .rack) in
           let done = first .outcome s h in
           let same = asked .unaltered s1 in

@@ -1,8 +1,8 @@
 use mathlib.Core.Path.{_≡_, sym, ap, subst, _∙_}
 use lib.ListN.{length}
 use Rattle.terms.specs.Codes.{Word, code}
-use Rattle.row_laws.specs.Windowed.{dressed, Fits}
-use Rattle.row_laws.proofs.Dressed.{dressed-word}
+use Rattle.row_laws.specs.Windowed.{with-marks, Fits}
+use Rattle.row_laws.proofs.WithMarks.{with-marks-word}
 use Rattle.trees.specs.Trees.{tree-nodes}
 use Rattle.trees.proofs.Steps.{stay-step}
 use Rattle.trees.proofs.Trees.{tree-formed, tree-some}
@@ -35,7 +35,7 @@ returns-in-rest-code g c =
     let told = c .in-Some .ensures tt in
     let is = c .items .ensures ∙ told .1 in
     stay-step _ _ _ (c .args .rack .now) _ _ _ tt
-    (λ next. absurd (c .in-rest-code .ensures tt (subst (Word (a .moves) (a .order)) (sym is) (dressed-word (a .moves) (a .few) (a .order) i u (next .moves) (subst (λ o. Fits o i (length u)) (c .order .ensures) (told .0))))))
+    (λ next. absurd (c .in-rest-code .ensures tt (subst (Word (a .moves) (a .order)) (sym is) (with-marks-word (a .moves) (a .few) (a .order) i u (next .moves) (subst (λ o. Fits o i (length u)) (c .order .ensures) (told .0))))))
 
 pub returns : need.returns
 returns g c =
@@ -44,7 +44,7 @@ returns g c =
     let u = c .args .word .now in
     let i = c .args .marks in
     let told = c .in-Some .ensures tt in
-    let key : c .in-Some-code .code ≡ code (a .moves) (dressed i u) = c .in-Some-code .ensures tt .is ∙ ap (code (a .moves)) (c .items .ensures ∙ told .1) in
+    let key : c .in-Some-code .code ≡ code (a .moves) (with-marks i u) = c .in-Some-code .ensures tt .is ∙ ap (code (a .moves)) (c .items .ensures ∙ told .1) in
     let wrote = c .write .ensures in
     window-step (a .moves) (a .order) (tree-nodes tree) (a .few) (a .low) (tree-formed tree) (tree-some tree) u (c .args .standing) i (c .pre) (c .in-Some-code .code) key
     (subst (λ o. Fits o i (length u)) (c .order .ensures) (told .0)) (bit-set (c .args .standing) i (c .pre) (c .if-standing-marks-eq0 .left))

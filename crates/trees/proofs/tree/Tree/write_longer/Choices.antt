@@ -5,7 +5,7 @@ use Rattle.terms.specs.Codes.{base}
 use Rattle.row_laws.specs.Rows.{MoreRows}
 use Rattle.trees.specs.Planting.{Step, Underway}
 use Rattle.trees.specs.Trees.{For}
-use Rattle.trees.proofs.tree.Tree.grow_longer.Given as given
+use Rattle.trees.proofs.tree.Tree.write_longer.Given as given
 
 abbrev pub Inv-loop-from : given.InvT-loop-from
 Inv-loop-from g l =

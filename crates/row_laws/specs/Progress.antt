@@ -29,7 +29,7 @@ pub record Upto (n k : ℕ) (t : List Node) (m : ℕ) (f : ℕ → ℕ) : Type 0
   pub only : (key : ℕ) → 0 < f key → NodeKey n k m key
 
 -- f has the rows of the first m nodes, those of the next node whose words have codes below d, and nothing else
-pub record Growing (n k : ℕ) (t : List Node) (m d : ℕ) (f : ℕ → ℕ) : Type 0 where
+pub record InProgress (n k : ℕ) (t : List Node) (m d : ℕ) (f : ℕ → ℕ) : Type 0 where
   pub standings : Standings n k t m f
   pub done : (u : List ℕ) → Moves n u → length u ≤ k → code n u < d → Standing t (m + 1) u (f (row-key n k (m + 1) u))
   pub pending : (u : List ℕ) → Moves n u → length u ≤ k → d ≤ code n u → f (row-key n k (m + 1) u) ≡ 0

@@ -5,16 +5,16 @@ use Rattle.row_laws.specs.Rows.{MoreRows}
 use Rattle.trees.specs.Planting.{Step, Finished}
 use Rattle.trees.specs.Trees.{tree-nodes}
 use Rattle.trees.proofs.Steps.{stay-step, step-step, step-step-refused, step-weaker}
-use Rattle.trees.proofs.tree.Tree.grow_all.Needs as need
+use Rattle.trees.proofs.tree.Tree.write_nodes.Needs as need
 
 pub loop-m-holds : need.loop-m-holds
 loop-m-holds g c = stay-step _ _ _ (c .args .rack .now) _ _ _ tt (λ h. h)
 
 pub loop-m-again : need.loop-m-again
-loop-m-again g c = step-step _ _ _ _ _ _ _ tt (Ok (tt {0})) (c .loop-m .inv) (subst (Step _ _ _ _ _ _ _ _) (c .in-Continue-grow .was tt) (c .grow .ensures))
+loop-m-again g c = step-step _ _ _ _ _ _ _ tt (Ok (tt {0})) (c .loop-m .inv) (subst (Step _ _ _ _ _ _ _ _) (c .in-Continue-write-node .was tt) (c .write-node .ensures))
 
-pub returns-in-Break-grow : need.returns-in-Break-grow
-returns-in-Break-grow g c = step-step-refused _ _ _ _ _ _ _ _ tt (c .grow .result) _ (c .from-residual .result) (c .in-Break-grow .was tt) (c .from-residual .ensures .0) (c .loop-m .inv) (c .grow .ensures)
+pub returns-in-Break-write-node : need.returns-in-Break-write-node
+returns-in-Break-write-node g c = step-step-refused _ _ _ _ _ _ _ _ tt (c .write-node .result) _ (c .from-residual .result) (c .in-Break-write-node .was tt) (c .from-residual .ensures .0) (c .loop-m .inv) (c .write-node .ensures)
 
 pub returns : need.returns
 returns g c =

@@ -14,9 +14,9 @@ use Rattle.trees.specs.Trees.{tree-nodes}
 use Rattle.trees.proofs.Planting.{finished-same, next-parent-same, walk-ends, walk-leaves, walk-finds, walk-done}
 use Rattle.trees.proofs.Steps.{no-step, question-step, step-step, step-step-refused, step-weaker}
 use Rattle.trees.proofs.Trees.{tree-formed, tree-long}
-use Rattle.trees.proofs.tree.Tree.grow_longer.Given as given
-use Rattle.trees.proofs.tree.Tree.grow_longer.Needs as need
-use Rattle.trees.proofs.tree.Tree.grow_longer.Needs.{After-next, After-extend, then-key-start·by·then-key-start, then-key-start·by·else-key-start·then-key-start-2}
+use Rattle.trees.proofs.tree.Tree.write_longer.Given as given
+use Rattle.trees.proofs.tree.Tree.write_longer.Needs as need
+use Rattle.trees.proofs.tree.Tree.write_longer.Needs.{After-next, After-extend, then-key-start·by·then-key-start, then-key-start·by·else-key-start·then-key-start-2}
 
 pub mul-from : need.mul-from
 mul-from g c =

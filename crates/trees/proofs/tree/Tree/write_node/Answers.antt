@@ -6,9 +6,9 @@ use Rattle.trees.specs.Trees.{tree-nodes}
 use Rattle.trees.proofs.Planting.{next-empty}
 use Rattle.trees.proofs.Steps.{stay-step, step-step, step-step-refused, step-weaker}
 use Rattle.trees.proofs.Trees.{tree-formed}
-use Rattle.trees.proofs.tree.Tree.grow.Given as given
-use Rattle.trees.proofs.tree.Tree.grow.Needs as need
-use Rattle.trees.proofs.tree.Tree.grow.Needs.{After-write-row}
+use Rattle.trees.proofs.tree.Tree.write_node.Given as given
+use Rattle.trees.proofs.tree.Tree.write_node.Needs as need
+use Rattle.trees.proofs.tree.Tree.write_node.Needs.{After-write-row}
 
 -- the row of the empty word
 first : (g : given.Over) (c : After-write-row g) → Step (g .R·Rack .view) (g .R·Rack .sound) (g .R·Rack .unused) (c .args .rack .now) (c .write-row .last .rack) (MoreRows (c .args .self .now .alphabet .moves) (c .args .self .now .alphabet .order) (tree-nodes (c .args .self .now))) (Finished (c .args .self .now .alphabet .moves) (c .args .self .now .alphabet .order) (tree-nodes (c .args .self .now)) (c .args .m)) (Underway (c .args .self .now .alphabet .moves) (c .args .self .now .alphabet .order) (tree-nodes (c .args .self .now)) (c .args .m) 1) (c .write-row .result)
@@ -23,4 +23,4 @@ returns-in-Break-write-row g c =
 
 pub returns : need.returns
 returns g c =
-    step-step _ _ _ _ _ _ _ tt (c .grow-longer .result) (subst (Step _ _ _ _ _ _ _ _) (c .in-Continue-write-row .was tt) (first g (need.at·returns g c .After-write-row))) (c .grow-longer .ensures)
+    step-step _ _ _ _ _ _ _ tt (c .write-longer .result) (subst (Step _ _ _ _ _ _ _ _) (c .in-Continue-write-row .was tt) (first g (need.at·returns g c .After-write-row))) (c .write-longer .ensures)

@@ -25,16 +25,16 @@ use Rattle.tree_laws.specs.Routes.{WellFormed}
 use Rattle.tree_laws.proofs.Nodes.{route-moves}
 use Rattle.tree_laws.proofs.Rows.{played-at}
 use Rattle.tree_laws.proofs.Windows.{all-parts}
-use Rattle.row_laws.specs.Windowed.{dressed, Fits, turn}
+use Rattle.row_laws.specs.Windowed.{with-marks, Fits, turn}
 
 -- x is the moves of a word with their marks, and a window
-pub record Dressing (n k : ℕ) (x : List ℕ) : Type 0 where
+pub record Marking (n k : ℕ) (x : List ℕ) : Type 0 where
   pub marks : ℕ
   pub word : List ℕ
   pub four : marks < 4
   pub moves : Moves n word
   pub fits : Fits k marks (length word)
-  pub is : x ≡ dressed marks word
+  pub is : x ≡ with-marks marks word
 
 pub fits-short : (k i len : ℕ) → Fits k i len → len ≤ k
 fits-short k zero len h = omega arith
@@ -53,11 +53,11 @@ module _ (n : ℕ) (few : n ≤ 12) where
   moves-items : (u : List ℕ) → Moves n u → All (Item n) u
   moves-items u moves = all-weaker (Move n) (Item n) (λ x m. inl m) u moves
 
-  pub dressed-items : (i : ℕ) (u : List ℕ) → Moves n u → All (Item n) (dressed i u)
-  dressed-items zero u moves = moves-items u moves
-  dressed-items (suc zero) u moves = (inr (inl refl), moves-items u moves)
-  dressed-items (suc (suc zero)) u moves = all-push (Item n) u end-mark (moves-items u moves) (inr (inr refl))
-  dressed-items (suc (suc (suc i))) u moves = (inr (inl refl), all-push (Item n) u end-mark (moves-items u moves) (inr (inr refl)))
+  pub with-marks-items : (i : ℕ) (u : List ℕ) → Moves n u → All (Item n) (with-marks i u)
+  with-marks-items zero u moves = moves-items u moves
+  with-marks-items (suc zero) u moves = (inr (inl refl), moves-items u moves)
+  with-marks-items (suc (suc zero)) u moves = all-push (Item n) u end-mark (moves-items u moves) (inr (inr refl))
+  with-marks-items (suc (suc (suc i))) u moves = (inr (inl refl), all-push (Item n) u end-mark (moves-items u moves) (inr (inr refl)))
 
   mark-values-moves : (u : List ℕ) → Moves n u → sumBy mark-value u ≡ 0
   mark-values-moves [] h = refl
@@ -66,11 +66,11 @@ module _ (n : ℕ) (few : n ≤ 12) where
       omega (arith, sumBy-cons mark-value x u, mark-values-moves u (h .1))
 
   -- the marks come back
-  mark-values-dressed : (i : ℕ) (u : List ℕ) → i < 4 → Moves n u → sumBy mark-value (dressed i u) ≡ i
-  mark-values-dressed zero u four h = mark-values-moves u h
-  mark-values-dressed (suc zero) u four h = omega (arith, sumBy-cons mark-value start-mark u, mark-values-moves u h)
-  mark-values-dressed (suc (suc zero)) u four h = omega (arith, sumBy-push mark-value u end-mark, mark-values-moves u h)
-  mark-values-dressed (suc (suc (suc i))) u four h =
+  mark-values-with-marks : (i : ℕ) (u : List ℕ) → i < 4 → Moves n u → sumBy mark-value (with-marks i u) ≡ i
+  mark-values-with-marks zero u four h = mark-values-moves u h
+  mark-values-with-marks (suc zero) u four h = omega (arith, sumBy-cons mark-value start-mark u, mark-values-moves u h)
+  mark-values-with-marks (suc (suc zero)) u four h = omega (arith, sumBy-push mark-value u end-mark, mark-values-moves u h)
+  mark-values-with-marks (suc (suc (suc i))) u four h =
       omega (arith, sumBy-cons mark-value start-mark (u ++ (end-mark ∷ [])), sumBy-push mark-value u end-mark, mark-values-moves u h)
 
   kept-moves : (u : List ℕ) → Moves n u → kept-by no-mark u ≡ u
@@ -81,18 +81,18 @@ module _ (n : ℕ) (few : n ≤ 12) where
   kept-pushed u h = kept-by-append no-mark u (end-mark ∷ []) ∙ append-nil (kept-by no-mark u) ∙ kept-moves u h
 
   -- the moves come back
-  kept-dressed : (i : ℕ) (u : List ℕ) → Moves n u → kept-by no-mark (dressed i u) ≡ u
-  kept-dressed zero u h = kept-moves u h
-  kept-dressed (suc zero) u h = kept-moves u h
-  kept-dressed (suc (suc zero)) u h = kept-pushed u h
-  kept-dressed (suc (suc (suc i))) u h = kept-pushed u h
+  kept-with-marks : (i : ℕ) (u : List ℕ) → Moves n u → kept-by no-mark (with-marks i u) ≡ u
+  kept-with-marks zero u h = kept-moves u h
+  kept-with-marks (suc zero) u h = kept-moves u h
+  kept-with-marks (suc (suc zero)) u h = kept-pushed u h
+  kept-with-marks (suc (suc (suc i))) u h = kept-pushed u h
 
   -- two windows with one code have the same marks and the same moves
-  pub dressed-apart : (i j : ℕ) (u v : List ℕ) → i < 4 → j < 4 → Moves n u → Moves n v → code n (dressed i u) ≡ code n (dressed j v) → (i ≡ j) × (u ≡ v)
-  dressed-apart i j u v hi hj hu hv e =
-      let same : dressed i u ≡ dressed j v = code-apart n few (dressed i u) (dressed j v) (dressed-items i u hu) (dressed-items j v hv) e in (
-        sym (mark-values-dressed i u hi hu) ∙ ap (sumBy mark-value) same ∙ mark-values-dressed j v hj hv,
-        sym (kept-dressed i u hu) ∙ ap (kept-by no-mark) same ∙ kept-dressed j v hv,
+  pub with-marks-apart : (i j : ℕ) (u v : List ℕ) → i < 4 → j < 4 → Moves n u → Moves n v → code n (with-marks i u) ≡ code n (with-marks j v) → (i ≡ j) × (u ≡ v)
+  with-marks-apart i j u v hi hj hu hv e =
+      let same : with-marks i u ≡ with-marks j v = code-apart n few (with-marks i u) (with-marks j v) (with-marks-items i u hu) (with-marks-items j v hv) e in (
+        sym (mark-values-with-marks i u hi hu) ∙ ap (sumBy mark-value) same ∙ mark-values-with-marks j v hj hv,
+        sym (kept-with-marks i u hu) ∙ ap (kept-by no-mark) same ∙ kept-with-marks j v hv,
       )
 
   -- two windows with one turn have the same marks and the same moves
@@ -100,18 +100,18 @@ module _ (n : ℕ) (few : n ≤ 12) where
   turn-apart i j u v hi hj hu hv e = (omega arith, code-apart n few u v (moves-items u hu) (moves-items v hv) (omega arith))
 
   module _ (k : ℕ) where
-    pub dressed-word : (i : ℕ) (u : List ℕ) → Moves n u → Fits k i (length u) → Word n k (dressed i u)
-    dressed-word i u moves fits = record { items = dressed-items i u moves; short = short i fits }
+    pub with-marks-word : (i : ℕ) (u : List ℕ) → Moves n u → Fits k i (length u) → Word n k (with-marks i u)
+    with-marks-word i u moves fits = record { items = with-marks-items i u moves; short = short i fits }
       where
-        short : (j : ℕ) → Fits k j (length u) → length (dressed j u) ≤ k
+        short : (j : ℕ) → Fits k j (length u) → length (with-marks j u) ≤ k
         short zero h = omega arith
         short (suc zero) h = omega arith
         short (suc (suc zero)) h = omega (arith, length-push u end-mark)
         short (suc (suc (suc j))) h = omega (arith, length-marked u)
 
     -- the code of a window lies below the base's power
-    pub dressed-below : (i : ℕ) (u : List ℕ) → Moves n u → Fits k i (length u) → code n (dressed i u) < base n ^ k
-    dressed-below i u moves fits = code-below n few k (dressed i u) (dressed-word i u moves fits)
+    pub with-marks-below : (i : ℕ) (u : List ℕ) → Moves n u → Fits k i (length u) → code n (with-marks i u) < base n ^ k
+    with-marks-below i u moves fits = code-below n few k (with-marks i u) (with-marks-word i u moves fits)
 
     pub moves-below : (u : List ℕ) → Moves n u → length u ≤ k → code n u < base n ^ k
     moves-below u moves short = code-below n few k u (record { items = moves-items u moves; short = short })
@@ -121,8 +121,8 @@ module _ (n : ℕ) (few : n ≤ 12) where
     turn-below i u four moves fits = omega (arith, moves-below u moves (fits-short k i (length u) fits))
 
 module _ (n k : ℕ) (x : List ℕ) where
-  dressing-of-shape : (w : List ℕ) → Moves n w → Shape k w x → Dressing n k x
-  dressing-of-shape w moves (whole h e) = record {
+  marking-of-shape : (w : List ℕ) → Moves n w → Shape k w x → Marking n k x
+  marking-of-shape w moves (whole h e) = record {
     marks = 3;
     word = w;
     four = omega arith;
@@ -130,7 +130,7 @@ module _ (n k : ℕ) (x : List ℕ) where
     fits = omega (arith, length-marked w);
     is = e;
   }
-  dressing-of-shape w moves (at-front p (after, split) long is) = record {
+  marking-of-shape w moves (at-front p (after, split) long is) = record {
     marks = 1;
     word = p;
     four = omega arith;
@@ -138,7 +138,7 @@ module _ (n k : ℕ) (x : List ℕ) where
     fits = omega arith;
     is = is;
   }
-  dressing-of-shape w moves (at-back p (before, split) long is) = record {
+  marking-of-shape w moves (at-back p (before, split) long is) = record {
     marks = 2;
     word = p;
     four = omega arith;
@@ -146,7 +146,7 @@ module _ (n k : ℕ) (x : List ℕ) where
     fits = omega arith;
     is = is;
   }
-  dressing-of-shape w moves (inside (before, after, split) long) = record {
+  marking-of-shape w moves (inside (before, after, split) long) = record {
     marks = 0;
     word = x;
     four = omega arith;
@@ -155,25 +155,25 @@ module _ (n k : ℕ) (x : List ℕ) where
     is = refl;
   }
 
-  pub dressing-of-window : 2 ≤ k → IsWindow n k x → Dressing n k x
-  dressing-of-window wide h =
+  pub marking-of-window : 2 ≤ k → IsWindow n k x → Marking n k x
+  marking-of-window wide h =
       let (w, moves, of) = moves-from-window n k x wide h in
-      dressing-of-shape w moves (shape-of k w x (omega arith) of)
+      marking-of-shape w moves (shape-of k w x (omega arith) of)
 
-  shape-of-dressing : (i : ℕ) (u : List ℕ) → Fits k i (length u) → x ≡ dressed i u → Shape k u x
-  shape-of-dressing zero u fits is = inside ([], [], sym (append-nil x ∙ is)) (ap length is ∙ fits)
-  shape-of-dressing (suc zero) u fits is = at-front u ([], sym (append-nil u)) (omega arith) is
-  shape-of-dressing (suc (suc zero)) u fits is = at-back u ([], refl) (omega arith) is
-  shape-of-dressing (suc (suc (suc i))) u fits is = whole (omega (arith, length-marked u)) is
+  shape-of-marking : (i : ℕ) (u : List ℕ) → Fits k i (length u) → x ≡ with-marks i u → Shape k u x
+  shape-of-marking zero u fits is = inside ([], [], sym (append-nil x ∙ is)) (ap length is ∙ fits)
+  shape-of-marking (suc zero) u fits is = at-front u ([], sym (append-nil u)) (omega arith) is
+  shape-of-marking (suc (suc zero)) u fits is = at-back u ([], refl) (omega arith) is
+  shape-of-marking (suc (suc (suc i))) u fits is = whole (omega (arith, length-marked u)) is
 
-  pub window-of-dressing : Dressing n k x → IsWindow n k x
-  window-of-dressing h =
-      window-from-moves n k x (h .word) (h .moves) (window-of (shape-of-dressing (h .marks) (h .word) (h .fits) (h .is)))
+  pub window-of-marking : Marking n k x → IsWindow n k x
+  window-of-marking h =
+      window-from-moves n k x (h .word) (h .moves) (window-of (shape-of-marking (h .marks) (h .word) (h .fits) (h .is)))
 
   pub window-word : n ≤ 12 → 2 ≤ k → IsWindow n k x → Word n k x
   window-word few wide h =
-      let r = dressing-of-window wide h in
-      subst (Word n k) (sym (r .is)) (dressed-word n few k (r .marks) (r .word) (r .moves) (r .fits))
+      let r = marking-of-window wide h in
+      subst (Word n k) (sym (r .is)) (with-marks-word n few k (r .marks) (r .word) (r .moves) (r .fits))
 
 module _ (n k : ℕ) (few : n ≤ 12) (wide : 2 ≤ k) (t : List Node) (wf : WellFormed n t) where
   -- what is playable is a window
@@ -182,13 +182,13 @@ module _ (n k : ℕ) (few : n ≤ 12) (wide : 2 ≤ k) (t : List Node) (wf : Wel
 
   module _ (u : List ℕ) (s : ℕ) (moves : Moves n u) (standing : Standing t (length t) u s) where
     -- the bits of the standing of u at the root tell which windows around u are playable
-    pub dressed-decides : (i : ℕ) → i < 4 → Fits k i (length u) → Decides (has s (2 ^ i)) (Playable t k (dressed i u))
-    dressed-decides zero four fits = played-at n k t (omega arith) wide wf u s moves standing .no-mark fits
-    dressed-decides (suc zero) four fits = played-at n k t (omega arith) wide wf u s moves standing .after-start fits
-    dressed-decides (suc (suc zero)) four fits = played-at n k t (omega arith) wide wf u s moves standing .before-end fits
-    dressed-decides (suc (suc (suc zero))) four fits = played-at n k t (omega arith) wide wf u s moves standing .both-marks fits
-    dressed-decides (suc (suc (suc (suc i)))) four fits = absurd (omega arith)
+    pub with-marks-decides : (i : ℕ) → i < 4 → Fits k i (length u) → Decides (has s (2 ^ i)) (Playable t k (with-marks i u))
+    with-marks-decides zero four fits = played-at n k t (omega arith) wide wf u s moves standing .no-mark fits
+    with-marks-decides (suc zero) four fits = played-at n k t (omega arith) wide wf u s moves standing .after-start fits
+    with-marks-decides (suc (suc zero)) four fits = played-at n k t (omega arith) wide wf u s moves standing .before-end fits
+    with-marks-decides (suc (suc (suc zero))) four fits = played-at n k t (omega arith) wide wf u s moves standing .both-marks fits
+    with-marks-decides (suc (suc (suc (suc i)))) four fits = absurd (omega arith)
 
     -- around a word with the standing 0 nothing is playable
-    pub dressed-none : (i : ℕ) → i < 4 → Fits k i (length u) → s ≡ 0 → Playable t k (dressed i u) → ⊥
-    dressed-none i four fits none = not-from-decides (has s (2 ^ i)) (dressed-decides i four fits) (ap (λ z. has z (2 ^ i)) none)
+    pub with-marks-none : (i : ℕ) → i < 4 → Fits k i (length u) → s ≡ 0 → Playable t k (with-marks i u) → ⊥
+    with-marks-none i four fits none = not-from-decides (has s (2 ^ i)) (with-marks-decides i four fits) (ap (λ z. has z (2 ^ i)) none)

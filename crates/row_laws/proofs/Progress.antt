@@ -21,7 +21,7 @@ use Rattle.tree_laws.proofs.Rows.{none-longer, none-around}
 use Rattle.tree_laws.specs.Computed.{has}
 use Rattle.racks.specs.Counts.{written-here, written-other, written-same}
 use Rattle.racks.specs.Views.{written}
-use Rattle.row_laws.specs.Growth.{NodeKey, Standings, Upto, Growing}
+use Rattle.row_laws.specs.Progress.{NodeKey, Standings, Upto, InProgress}
 use Rattle.row_laws.specs.Rows.{row-key, NodeRow}
 use Rattle.row_laws.proofs.Keys.{items-from-moves, code-of-moves, code-of-push, same-word, row-keys-apart}
 
@@ -33,8 +33,8 @@ module _ (n k : ℕ) (few : n ≤ 12) (t : List Node) where
     only = λ key held. h .only key (subst (λ x. 0 < x) (same key) held);
   }
 
-  pub growing-same : (m d : ℕ) (f g : ℕ → ℕ) → ((key : ℕ) → g key ≡ f key) → Growing n k t m d f → Growing n k t m d g
-  growing-same m d f g same h = record {
+  pub progress-same : (m d : ℕ) (f g : ℕ → ℕ) → ((key : ℕ) → g key ≡ f key) → InProgress n k t m d f → InProgress n k t m d g
+  progress-same m d f g same h = record {
     standings = λ v u low high moves short. subst (Standing t v u) (sym (same (row-key n k v u))) (h .standings v u low high moves short);
     done = λ u moves short l. subst (Standing t (m + 1) u) (sym (same (row-key n k (m + 1) u))) (h .done u moves short l);
     pending = λ u moves short l. same (row-key n k (m + 1) u) ∙ h .pending u moves short l;
@@ -52,16 +52,16 @@ module _ (n k : ℕ) (few : n ≤ 12) (t : List Node) where
   fresh-node : (m : ℕ) (u : List ℕ) → Moves n u → length u ≤ k → NodeKey n k m (row-key n k (m + 1) u) → ⊥
   fresh-node m u moves short h = omega (arith, h .inside, row-keys-apart n k few (m + 1) (h .node) u (h .word) moves short (h .moves) (h .short) (h .key-is) .0)
 
-  pub growing-none : (m : ℕ) (f : ℕ → ℕ) → Upto n k t m f → Growing n k t m 0 f
-  growing-none m f h = record {
+  pub progress-none : (m : ℕ) (f : ℕ → ℕ) → Upto n k t m f → InProgress n k t m 0 f
+  progress-none m f h = record {
     standings = h .standings;
     done = λ u moves short l. absurd (omega arith);
     pending = λ u moves short l. ⊎-elim (λ held. absurd (fresh-node m u moves short (h .only (row-key n k (m + 1) u) held))) (λ none. omega arith) (cases-lt 0 (f (row-key n k (m + 1) u)));
     only = λ key held. wider m key (h .only key held);
   }
 
-  pub growing-all : (m d : ℕ) (f : ℕ → ℕ) → ((u : List ℕ) → Moves n u → length u ≤ k → code n u < d) → Growing n k t m d f → Upto n k t (m + 1) f
-  growing-all m d f all h = record {
+  pub progress-all : (m d : ℕ) (f : ℕ → ℕ) → ((u : List ℕ) → Moves n u → length u ≤ k → code n u < d) → InProgress n k t m d f → Upto n k t (m + 1) f
+  progress-all m d f all h = record {
     standings = λ v u low high moves short.
         ⊎-elim
         (λ last. subst (λ x. Standing t x u (f (row-key n k x u))) (sym last) (h .done u moves short (all u moves short)))
@@ -71,8 +71,8 @@ module _ (n k : ℕ) (few : n ≤ 12) (t : List Node) where
   }
 
   -- no word has a code from d to below e
-  pub growing-gap : (m d e : ℕ) (f : ℕ → ℕ) → d ≤ e → ((u : List ℕ) → Moves n u → length u ≤ k → d ≤ code n u → code n u < e → ⊥) → Growing n k t m d f → Growing n k t m e f
-  growing-gap m d e f le none h = record {
+  pub progress-gap : (m d e : ℕ) (f : ℕ → ℕ) → d ≤ e → ((u : List ℕ) → Moves n u → length u ≤ k → d ≤ code n u → code n u < e → ⊥) → InProgress n k t m d f → InProgress n k t m e f
+  progress-gap m d e f le none h = record {
     standings = h .standings;
     done = λ u moves short l. ⊎-elim (λ low. h .done u moves short low) (λ high. absurd (none u moves short high l)) (cases-lt (code n u) d);
     pending = λ u moves short l. h .pending u moves short (omega arith);
@@ -81,8 +81,8 @@ module _ (n k : ℕ) (few : n ≤ 12) (t : List Node) where
 
   module _ (m : ℕ) (u : List ℕ) (moves : Moves n u) (short : length u ≤ k) (f : ℕ → ℕ) where
     -- the row of the word whose code comes next
-    pub growing-write : (s : ℕ) → Growing n k t m (code n u) f → Standing t (m + 1) u s → Growing n k t m (code n u + 1) (written f (row-key n k (m + 1) u) s)
-    growing-write s h stands = record {
+    pub progress-write : (s : ℕ) → InProgress n k t m (code n u) f → Standing t (m + 1) u s → InProgress n k t m (code n u + 1) (written f (row-key n k (m + 1) u) s)
+    progress-write s h stands = record {
       standings = λ v w low high mw sw. subst (Standing t v w) (sym (written-other f here s (row-key n k v w) (λ e. omega (arith, row-keys-apart n k few v (m + 1) w u mw sw moves short e .0)))) (h .standings v w low high mw sw);
       done = λ w mw sw l.
           ⊎-elim
@@ -104,9 +104,9 @@ module _ (n k : ℕ) (few : n ≤ 12) (t : List Node) where
         apart w mw sw other e = other (ap (code n) (row-keys-apart n k few (m + 1) (m + 1) w u mw sw moves short e .1))
 
     -- the word whose code comes next has no row
-    pub growing-pass : Growing n k t m (code n u) f → Standing t (m + 1) u 0 → Growing n k t m (code n u + 1) f
-    growing-pass h none =
-        growing-same m (code n u + 1) (written f (row-key n k (m + 1) u) 0) f (written-same f (row-key n k (m + 1) u) 0 (h .pending u moves short (omega arith))) (growing-write 0 h none)
+    pub progress-pass : InProgress n k t m (code n u) f → Standing t (m + 1) u 0 → InProgress n k t m (code n u + 1) f
+    progress-pass h none =
+        progress-same m (code n u + 1) (written f (row-key n k (m + 1) u) 0) f (written-same f (row-key n k (m + 1) u) 0 (h .pending u moves short (omega arith))) (progress-write 0 h none)
 
 -- a standing that is not 0 tells that some route contains the word
 pub contained-from-held : (t : List Node) (v : ℕ) (u : List ℕ) (s : ℕ) → Standing t v u s → 0 < s → SomeContains t v u
@@ -147,8 +147,8 @@ module _ (n k : ℕ) (few : n ≤ 12) where
         subst (Standing t (m + 1) (v ++ (x ∷ []))) (none-longer n t wf (m + 1) (omega arith) inside v x 0 r h is refl) is
 
     -- no word with a code from c to below e is held: no word behind one of them is contained
-    pub growing-skip : (c e : ℕ) (f : ℕ → ℕ) → c ≤ e → ((u : List ℕ) → Moves n u → length u ≤ k → c ≤ code n u → code n u < e → f (row-key n k (m + 1) u) ≡ 0) → Growing n k t m (c * base n + 1) f → Growing n k t m (e * base n + 1) f
-    growing-skip c e f le free h = record {
+    pub progress-skip : (c e : ℕ) (f : ℕ → ℕ) → c ≤ e → ((u : List ℕ) → Moves n u → length u ≤ k → c ≤ code n u → code n u < e → f (row-key n k (m + 1) u) ≡ 0) → InProgress n k t m (c * base n + 1) f → InProgress n k t m (e * base n + 1) f
+    progress-skip c e f le free h = record {
       standings = h .standings;
       done = by-ends (λ u. Moves n u → length u ≤ k → code n u < e * base n + 1 → Standing t (m + 1) u (f (row-key n k (m + 1) u))) more (λ moves short l. h .done [] moves short (omega arith));
       pending = λ u moves short l. h .pending u moves short (omega (arith, above-multiple c e 1 le));
@@ -170,8 +170,8 @@ module _ (n k : ℕ) (few : n ≤ 12) where
             (cases-lt (code n v) c)
 
     -- every move was tried behind the word with the code c
-    pub growing-tried : (c : ℕ) (f : ℕ → ℕ) → Growing n k t m (c * base n + n + 1) f → Growing n k t m ((c + 1) * base n + 1) f
-    growing-tried c f h = growing-gap n k few t m (c * base n + n + 1) ((c + 1) * base n + 1) f (omega (arith, add-mul c 1 (base n))) (λ u moves short low high. between u low high (parted u moves)) h
+    pub progress-tried : (c : ℕ) (f : ℕ → ℕ) → InProgress n k t m (c * base n + n + 1) f → InProgress n k t m ((c + 1) * base n + 1) f
+    progress-tried c f h = progress-gap n k few t m (c * base n + n + 1) ((c + 1) * base n + 1) f (omega (arith, add-mul c 1 (base n))) (λ u moves short low high. between u low high (parted u moves)) h
       where
         between : (u : List ℕ) → c * base n + n + 1 ≤ code n u → code n u < (c + 1) * base n + 1 → Parted u → ⊥
         between u low high (none is) = omega (arith, ap (code n) is)
@@ -186,8 +186,8 @@ module _ (n k : ℕ) (few : n ≤ 12) where
             (cases-lt (code n v) c)
 
     -- no word of at most k moves stands behind a word of k moves
-    pub growing-full : (p : List ℕ) (f : ℕ → ℕ) → Moves n p → k ≤ length p → Growing n k t m (code n p * base n + 1) f → Growing n k t m ((code n p + 1) * base n + 1) f
-    growing-full p f mp full h = growing-gap n k few t m (code n p * base n + 1) ((code n p + 1) * base n + 1) f (omega (arith, add-mul (code n p) 1 (base n))) (λ u moves short low high. between u short low high (parted u moves)) h
+    pub progress-full : (p : List ℕ) (f : ℕ → ℕ) → Moves n p → k ≤ length p → InProgress n k t m (code n p * base n + 1) f → InProgress n k t m ((code n p + 1) * base n + 1) f
+    progress-full p f mp full h = progress-gap n k few t m (code n p * base n + 1) ((code n p + 1) * base n + 1) f (omega (arith, add-mul (code n p) 1 (base n))) (λ u moves short low high. between u short low high (parted u moves)) h
       where
         between : (u : List ℕ) → length u ≤ k → code n p * base n + 1 ≤ code n u → code n u < (code n p + 1) * base n + 1 → Parted u → ⊥
         between u short low high (none is) = omega (arith, ap (code n) is)
@@ -202,21 +202,21 @@ module _ (n k : ℕ) (few : n ≤ 12) where
             (cases-lt (code n v) (code n p))
 
     -- all codes lie below the limit
-    pub growing-ends : (c : ℕ) (f : ℕ → ℕ) → base n ^ k ≤ c * base n → Growing n k t m (c * base n + 1) f → Upto n k t (m + 1) f
-    growing-ends c f past h = growing-all n k few t m (c * base n + 1) f (λ u moves short. omega (arith, code-of-moves n k few u moves short)) h
+    pub progress-ends : (c : ℕ) (f : ℕ → ℕ) → base n ^ k ≤ c * base n → InProgress n k t m (c * base n + 1) f → Upto n k t (m + 1) f
+    progress-ends c f past h = progress-all n k few t m (c * base n + 1) f (λ u moves short. omega (arith, code-of-moves n k few u moves short)) h
 
     -- nothing is held from the code c on
-    pub growing-exhausted : (c : ℕ) (f : ℕ → ℕ) → c ≤ base n ^ k → ((u : List ℕ) → Moves n u → length u ≤ k → c ≤ code n u → f (row-key n k (m + 1) u) ≡ 0) → Growing n k t m (c * base n + 1) f → Upto n k t (m + 1) f
-    growing-exhausted c f le free h =
-        growing-ends (base n ^ k) f (omega (arith, mul-le-mul-left {m = 1} {n = base n} (base n ^ k) (omega arith))) (growing-skip c (base n ^ k) f le (λ u moves short low high. free u moves short low) h)
+    pub progress-exhausted : (c : ℕ) (f : ℕ → ℕ) → c ≤ base n ^ k → ((u : List ℕ) → Moves n u → length u ≤ k → c ≤ code n u → f (row-key n k (m + 1) u) ≡ 0) → InProgress n k t m (c * base n + 1) f → Upto n k t (m + 1) f
+    progress-exhausted c f le free h =
+        progress-ends (base n ^ k) f (omega (arith, mul-le-mul-left {m = 1} {n = base n} (base n ^ k) (omega arith))) (progress-skip c (base n ^ k) f le (λ u moves short low high. free u moves short low) h)
 
     -- the first row of the node is that of the empty word
-    pub growing-start : (f : ℕ → ℕ) (s : ℕ) → Upto n k t m f → Standing t (m + 1) [] s → Growing n k t m (0 * base n + 1) (written f (row-key n k (m + 1) []) s)
-    growing-start f s h stands =
+    pub progress-start : (f : ℕ → ℕ) (s : ℕ) → Upto n k t m f → Standing t (m + 1) [] s → InProgress n k t m (0 * base n + 1) (written f (row-key n k (m + 1) []) s)
+    progress-start f s h stands =
         let one : 0 + 1 ≡ 0 * base n + 1 = omega arith in
-        subst (λ d. Growing n k t m d (written f (row-key n k (m + 1) []) s)) one (growing-write n k few t m [] tt (omega arith) f s (growing-none n k few t m f h) stands)
+        subst (λ d. InProgress n k t m d (written f (row-key n k (m + 1) []) s)) one (progress-write n k few t m [] tt (omega arith) f s (progress-none n k few t m f h) stands)
 
-    module _ (d : ℕ) (f : ℕ → ℕ) (h : Growing n k t m d f) where
+    module _ (d : ℕ) (f : ℕ → ℕ) (h : InProgress n k t m d f) where
       -- a word whose tail is not held is contained in no route
       pub stands-by-tail : (x : ℕ) (w : List ℕ) → Moves n (x ∷ w) → length (x ∷ w) ≤ k → code n (x ∷ w) ≡ d → f (row-key n k (m + 1) w) ≡ 0 → Standing t (m + 1) (x ∷ w) 0
       stands-by-tail x w moves short is gone =
@@ -226,8 +226,8 @@ module _ (n k : ℕ) (few : n ≤ 12) where
           subst (Standing t (m + 1) (x ∷ w)) (none-around n t wf (m + 1) (omega arith) inside (x ∷ w) _ r (h .done w (moves .1) fits less) stands gone) stands
 
       -- every held key is that of a word that some route contains
-      pub growing-rows : (key : ℕ) → 0 < f key → NodeRow n k t key
-      growing-rows key held = let at = h .only key held in row at (⊎-elim (λ last. at-last at last) (λ other. h .standings (at .node) (at .word) (at .from-one) (omega (arith, at .inside)) (at .moves) (at .short)) (cases-eq (at .node) (m + 1)))
+      pub progress-rows : (key : ℕ) → 0 < f key → NodeRow n k t key
+      progress-rows key held = let at = h .only key held in row at (⊎-elim (λ last. at-last at last) (λ other. h .standings (at .node) (at .word) (at .from-one) (omega (arith, at .inside)) (at .moves) (at .short)) (cases-eq (at .node) (m + 1)))
         where
           at-last : (a : NodeKey n k (m + 1) key) → a .node ≡ m + 1 → Standing t (a .node) (a .word) (f (row-key n k (a .node) (a .word)))
           at-last a last =
