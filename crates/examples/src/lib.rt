@@ -1,4 +1,6 @@
 // The worked examples: one list, and one statement that all of them hold.
+#![tactic(auto)]
+
 ghost use Rattle.std.specs.Prelude.{◌≡◌, length, All};
 ghost use Rattle.examples.specs.Worked.{Holds, examples};
 

@@ -1,4 +1,6 @@
 // A rack over a lent slice of rows, of which the first are held, ascending by key.
+#![tactic(auto)]
+
 ghost use Rattle.std.specs.Prelude.{◌≡◌, ℕ, ◌+◌, ◌-◌, ◌<◌, ◌≤◌, length, take, drop};
 ghost use Rattle.search.specs.Places.{Ascending, StandsAt, BelongsAt};
 ghost use Rattle.racks.specs.Memory.{Lent, lent, places_used};

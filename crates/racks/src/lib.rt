@@ -1,4 +1,6 @@
 // Racks: stores of numbers at keys, over lent memory.
+#![tactic(auto)]
+
 ghost use Rattle.std.specs.Prelude.{◌≡◌, ◌<◌, ◌≤◌, true, is_ok, Err, MatchOption, MatchResult};
 ghost use Rattle.terms.specs.declared.Refusal.TheVariants.{BeyondReach, NoRoom};
 ghost use Rattle.racks.specs.Views.{View, held_in, Smallest, NoneFrom, LacksRoom, Unaltered, Written, Emptied};

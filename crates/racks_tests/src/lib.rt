@@ -1,4 +1,6 @@
 // The racks as they run: a script of writes beside a plain model, at each rack, and the edges of each.
+#![tactic(auto)]
+
 #[cfg(test)]
 mod edges;
 #[cfg(test)]

@@ -1,4 +1,6 @@
 // The sample level from beginning to end: what the testers played, what the tree allows, and how the two meet.
+#![tactic(auto)]
+
 use anyhow::anyhow;
 use examples::proved_examples;
 use list_rack::{ListRack, Row};

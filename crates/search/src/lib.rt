@@ -1,4 +1,6 @@
 // One search by key, for a lent slice of any record that tells its key.
+#![tactic(auto)]
+
 ghost use Rattle.std.specs.Prelude.{◌≡◌, ℕ, ◌<◌, ◌≤◌, length, IfOk, IfErr, MatchResult};
 ghost use Rattle.search.specs.Places.{Ascending, StandsAt, BelongsAt};
 
@@ -13,8 +15,8 @@ pub trait Keyed {
 // Where the record with this key stands, or where one would belong. Each turn halves what is left.
 pub fn find<R: Keyed>(records: &[R], wanted: u64) -> Result<usize, usize>
     ensures inside { MatchResult result (λ i. i < length records.now) (λ i. i ≤ length records.now) }
-    ensures found { IfOk result (λ i. StandsAt key records.now wanted i) }
-    ensures missing { Ascending key records.now → IfErr result (λ i. BelongsAt key records.now wanted i) }
+    ensures found { IfOk result (λ i. StandsAt R.key records.now wanted i) }
+    ensures missing { Ascending R.key records.now → IfErr result (λ i. BelongsAt R.key records.now wanted i) }
 {
     let mut low = 0;
     let mut high = records.len();

@@ -14,7 +14,7 @@ pub(crate) fn choice<R: Rack>(
     second: u8,
     word: &[u8],
 ) -> u32
-    ensures { Asked view sound unused rack.old rack.new alphabet.now word.now (λ rows. result ≡ bit_or (rows first word.now) (rows second word.now)) }
+    ensures { Asked R.view R.sound R.unused rack.old rack.new alphabet.now word.now (λ rows. result ≡ bit_or (rows first word.now) (rows second word.now)) }
 {
     row(alphabet, rack, first, word) | row(alphabet, rack, second, word)
 }

@@ -1,4 +1,6 @@
 // The standing of a word at a node, worked out from the rows of the node's children in a rack.
+#![tactic(auto)]
+
 mod choices;
 mod leaves;
 mod loops;

@@ -28,7 +28,7 @@ fn arrived<R: Rack>(
 ) -> u32
     requires within_word { end ≤ length word.now }
     requires within_states { end ≤ length states.now }
-    ensures { Asked view sound unused rack.old rack.new alphabet.now word.now (λ rows. result ≡ ors (λ i. bit_and (slice_index states.now i) (rows child (slice_range word.now i end))) end) }
+    ensures { Asked R.view R.sound R.unused rack.old rack.new alphabet.now word.now (λ rows. result ≡ ors (λ i. bit_and (slice_index states.now i) (rows child (slice_range word.now i end))) end) }
 {
     let mut bits = 0;
     for i in 0..end {
@@ -55,7 +55,7 @@ fn start<R: Rack>(
     end: usize,
 ) -> u32
     requires { end ≤ length word.now }
-    ensures { Asked view sound unused rack.old rack.new alphabet.now word.now (λ rows. result ≡ (if middle then (if has (rows child (take end word.now)) 4 then 8 else 0) else fresh)) }
+    ensures { Asked R.view R.sound R.unused rack.old rack.new alphabet.now word.now (λ rows. result ≡ (if middle then (if has (rows child (take end word.now)) 4 then 8 else 0) else fresh)) }
 {
     if !middle {
         return fresh;
@@ -83,7 +83,7 @@ fn reached<R: Rack>(
     requires within_word { end ≤ length word.now }
     requires within_a { end ≤ length a_next.now }
     requires within_b { end ≤ length b_next.now }
-    ensures { Asked view sound unused rack.old rack.new alphabet.now word.now (λ rows. (result.0 ≡ state_bit turns.middle (rows turns.first) (rows turns.second) word.now (a_next.now, b_next.now) end next_a) × (result.1 ≡ state_bit turns.middle (rows turns.first) (rows turns.second) word.now (a_next.now, b_next.now) end next_b)) }
+    ensures { Asked R.view R.sound R.unused rack.old rack.new alphabet.now word.now (λ rows. (result.0 ≡ state_bit turns.middle (rows turns.first) (rows turns.second) word.now (a_next.now, b_next.now) end next_a) × (result.1 ≡ state_bit turns.middle (rows turns.first) (rows turns.second) word.now (a_next.now, b_next.now) end next_b)) }
 {
     let fresh = fresh_start(end);
     let a = start(alphabet, rack, turns.middle, fresh, turns.second, word, end)
@@ -109,7 +109,7 @@ fn rests<R: Rack>(
     requires short { length word.now ≤ 5 }
     requires long_a { length a_next.now ≡ 6 }
     requires long_b { length b_next.now ≡ 6 }
-    ensures { Asked view sound unused rack.old rack.new alphabet.now word.now (λ rows. result ≡ ors (rest_bits (rows turns.first) (rows turns.second) word.now (a_next.now, b_next.now)) (length word.now + 1)) }
+    ensures { Asked R.view R.sound R.unused rack.old rack.new alphabet.now word.now (λ rows. result ≡ ors (rest_bits (rows turns.first) (rows turns.second) word.now (a_next.now, b_next.now)) (length word.now + 1)) }
 {
     let mut bits = 0;
     for j in 0..word.len() + 1 {
@@ -123,7 +123,7 @@ fn rests<R: Rack>(
 // From the start or the middle of the loop: whether the word may end the loop, and whether it may stop before the end.
 fn run<R: Rack>(alphabet: &Alphabet, rack: &mut R, turns: Turns, word: &[u8]) -> u32
     requires { length word.now ≤ 5 }
-    ensures { Asked view sound unused rack.old rack.new alphabet.now word.now (λ rows. result ≡ run_standing turns.middle (rows turns.first) (rows turns.second) word.now) }
+    ensures { Asked R.view R.sound R.unused rack.old rack.new alphabet.now word.now (λ rows. result ≡ run_standing turns.middle (rows turns.first) (rows turns.second) word.now) }
 {
     let mut a_next = [0; 6];
     let mut b_next = [0; 6];
@@ -145,7 +145,7 @@ pub(crate) fn repeat<R: Rack>(
     word: &[u8],
 ) -> u32
     requires { length word.now ≤ 5 }
-    ensures { Asked view sound unused rack.old rack.new alphabet.now word.now (λ rows. result ≡ loop_standing (rows first) (rows second) word.now) }
+    ensures { Asked R.view R.sound R.unused rack.old rack.new alphabet.now word.now (λ rows. result ≡ loop_standing (rows first) (rows second) word.now) }
 {
     let mut turns = Turns {
         first,

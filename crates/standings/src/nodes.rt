@@ -17,7 +17,7 @@ use windows::Alphabet;
 // Each kind of node in its own way.
 fn by_kind<R: Rack>(alphabet: &Alphabet, node: Node, rack: &mut R, word: &[u8]) -> u32
     requires { length word.now ≤ 5 }
-    ensures { Asked view sound unused rack.old rack.new alphabet.now word.now (λ rows. result ≡ standing_of node (rows (first_child node)) (rows (second_child node)) word.now) }
+    ensures { Asked R.view R.sound R.unused rack.old rack.new alphabet.now word.now (λ rows. result ≡ standing_of node (rows (first_child node)) (rows (second_child node)) word.now) }
 {
     match node {
         Node::Skip => skip(word),
@@ -31,10 +31,10 @@ fn by_kind<R: Rack>(alphabet: &Alphabet, node: Node, rack: &mut R, word: &[u8]) 
 
 // The standing of the word at the node by the rows of the node's children, 0 for what is no word of at most k moves.
 pub fn standing<R: Rack>(alphabet: &Alphabet, node: Node, rack: &mut R, word: &[u8]) -> u32
-    ensures answer { Ready (sound rack.old) alphabet.now.moves alphabet.now.order word.now → result ≡ standing_by alphabet.now.moves alphabet.now.order (view rack.old).number node word.now }
+    ensures answer { Ready (R.sound rack.old) alphabet.now.moves alphabet.now.order word.now → result ≡ standing_by alphabet.now.moves alphabet.now.order (R.view rack.old).number node word.now }
     ensures too_long { alphabet.now.order < length word.now → result ≡ 0 }
     ensures other_items { (Moves alphabet.now.moves word.now → ⊥) → result ≡ 0 }
-    ensures kept { Kept view sound unused rack.old rack.new }
+    ensures kept { Kept R.view R.sound R.unused rack.old rack.new }
 {
     if word.len() > alphabet.order() || !alphabet.are_moves(word) {
         return 0;

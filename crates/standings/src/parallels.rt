@@ -17,7 +17,7 @@ pub(crate) fn parallel<R: Rack>(
     word: &[u8],
 ) -> u32
     requires { length word.now ≤ 5 }
-    ensures { Asked view sound unused rack.old rack.new alphabet.now word.now (λ rows. result ≡ parallel_standing (rows first) (rows second) word.now) }
+    ensures { Asked R.view R.sound R.unused rack.old rack.new alphabet.now word.now (λ rows. result ≡ parallel_standing (rows first) (rows second) word.now) }
 {
     let mut bits = 0;
     for mask in 0..1 << word.len() {

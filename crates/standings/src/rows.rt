@@ -19,8 +19,8 @@ pub(crate) const WHOLE: u32 = 8;
 
 // The number in the row of the word at the node, 0 where the bytes are no word.
 pub fn row<R: Rack>(alphabet: &Alphabet, rack: &mut R, node: u8, word: &[u8]) -> u32
-    ensures answer { sound rack.old → RowRead alphabet.now.moves alphabet.now.order (view rack.old).number node word.now result }
-    ensures kept { Kept view sound unused rack.old rack.new }
+    ensures answer { R.sound rack.old → RowRead alphabet.now.moves alphabet.now.order (R.view rack.old).number node word.now result }
+    ensures kept { Kept R.view R.sound R.unused rack.old rack.new }
 {
     let Some(code) = alphabet.code(word) else {
         return 0;

@@ -26,7 +26,7 @@ fn back(standing: u32) -> u32
 // The word cut in two at each place, the front in the first child and the rest in the second.
 fn cuts<R: Rack>(alphabet: &Alphabet, rack: &mut R, first: u8, second: u8, word: &[u8]) -> u32
     requires { length word.now ≤ 5 }
-    ensures { Asked view sound unused rack.old rack.new alphabet.now word.now (λ rows. result ≡ ors (cut_bits (rows first) (rows second) word.now) (length word.now + 1)) }
+    ensures { Asked R.view R.sound R.unused rack.old rack.new alphabet.now word.now (λ rows. result ≡ ors (cut_bits (rows first) (rows second) word.now) (length word.now + 1)) }
 {
     let mut bits = 0;
     for j in 0..word.len() + 1 {
@@ -46,7 +46,7 @@ pub(crate) fn sequence<R: Rack>(
     word: &[u8],
 ) -> u32
     requires { length word.now ≤ 5 }
-    ensures { Asked view sound unused rack.old rack.new alphabet.now word.now (λ rows. result ≡ sequence_standing (rows first) (rows second) word.now) }
+    ensures { Asked R.view R.sound R.unused rack.old rack.new alphabet.now word.now (λ rows. result ≡ sequence_standing (rows first) (rows second) word.now) }
 {
     // A beginning of the first child is one of the sequence, and an end of the second its end.
     let before = row(alphabet, rack, first, word) & (CONTAINED | BEGINS);

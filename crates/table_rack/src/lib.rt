@@ -1,4 +1,6 @@
 // A rack over a lent slice of numbers, indexed by key.
+#![tactic(auto)]
+
 ghost use Rattle.std.specs.Prelude.{◌≡◌, ℕ, ◌+◌, ◌<◌, ◌≤◌, length, drop, slice_set};
 ghost use Rattle.racks.specs.Memory.{Lent, lent, places_used};
 ghost use Rattle.racks.specs.Views.{Fresh, held_count, one_if_held, written};

@@ -4,7 +4,7 @@ use native.Mathlib.Nat.{pow-le-pow_left, pow-le-pow_right}
 use lib.Arith.{digits_div, digits_mod}
 use Rattle.std.specs.Int.Digits.{number_from_digits, digits_of, AllBelowBase}
 use Rattle.std.proofs.lemmas.Int.Digits.{number_push, number_lt, number_digits_of, digits_of_step}
-use Rattle.std.proofs.lemmas.List.Elements.{All-append, All-map, All-weaker}
+use Rattle.std.proofs.lemmas.List.Elements.{All-append, All-head, All-map, All-tail, All-weaker, recursion_from_All}
 use Rattle.std.proofs.lemmas.List.{length-map, length_push, map_push, take_more}
 use Rattle.std.proofs.lemmas.Bool.{eq-eqb, ne_eqb, cases_eq}
 use Rattle.std.proofs.lemmas.Bool.Decides.{nat_tests}
@@ -101,7 +101,7 @@ power_small b k low high =
 module _ (n : ℕ) (few : n ≤ 12) where
   items_back : (u : List ℕ) → All (Item n) u → map (item n) (map (digit n) u) ≡ u
   items_back [] h = refl
-  items_back (x ∷ u) h = (λ i. item_digit n few x h.0 i ∷ items_back u h.1 i)
+  items_back (x ∷ u) h = (λ i. item_digit n few x (All-head (Item n) x u h) i ∷ items_back u (All-tail (Item n) x u h) i)
 
   -- the digits of a code are those of its word
   pub digits_of_code : (u : List ℕ) → All (Item n) u → digits_of (base n) (code n u) ≡ map (digit n) u
@@ -122,7 +122,7 @@ module _ (n : ℕ) (few : n ≤ 12) where
 
   code_lt_length : (u : List ℕ) → All (Item n) u → code n u < base n ^ length u
   code_lt_length u items =
-      rw length-map at (number_lt (base n) (map (digit n) u) (All-weaker (λ d. (1 ≤ d) × (d < base n)) (λ d. d < base n) (λ d h. h.1) (map (digit n) u) (positive n few u items)))
+      rw length-map at (number_lt (base n) (map (digit n) u) (recursion_from_All (λ d. d < base n) (map (digit n) u) (All-weaker (λ d. (1 ≤ d) × (d < base n)) (λ d. d < base n) (λ d h. h.1) (map (digit n) u) (positive n few u items))))
 
   -- a code lies below the base's power
   pub code_below : (k : ℕ) (u : List ℕ) → Word n k u → code n u < base n ^ k

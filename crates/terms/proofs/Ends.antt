@@ -1,5 +1,6 @@
 -- A list seen from its end.
 use Rattle.std.proofs.Common.{◌≡◌, ◌⊎◌, List, [], ◌∷◌, ◌++◌, All, sym, refl, ap, subst, inl, inr, ⊎_elim, append_assoc, append-nil}
+use Rattle.std.proofs.lemmas.List.Elements.{All-nil, All-cons, All-head, All-tail}
 
 -- a list is empty or has a last item
 pub from_the_end : {X : Type 0} (w : List X) → (w ≡ []) ⊎ ((v : List X) × (x : X) × (w ≡ v ++ (x ∷ [])))
@@ -16,9 +17,9 @@ module _ {X : Type 0} (P : List X → Type 0) (more : (v : List X) (x : X) → P
   by_ends none w = onwards [] w none
 
 pub all_before_last : {X : Type 0} (P : X → Type 0) (v : List X) (x : X) → All P (v ++ (x ∷ [])) → All P v × P x
-all_before_last P [] x h = (tt, h.0)
-all_before_last P (y ∷ v) x h = let r = all_before_last P v x h.1 in ((h.0, r.0), r.1)
+all_before_last P [] x h = (All-nil P, All-head P x [] h)
+all_before_last P (y ∷ v) x h = let r = all_before_last P v x (All-tail P y (v ++ (x ∷ [])) h) in (All-cons P y v (All-head P y (v ++ (x ∷ [])) h) r.0, r.1)
 
 pub all_in_the_middle : {X : Type 0} (P : X → Type 0) (v : List X) (x : X) (w : List X) → All P (v ++ (x ∷ w)) → P x
-all_in_the_middle P [] x w h = h.0
-all_in_the_middle P (y ∷ v) x w h = all_in_the_middle P v x w h.1
+all_in_the_middle P [] x w h = All-head P _ _ h
+all_in_the_middle P (y ∷ v) x w h = all_in_the_middle P v x w (All-tail P _ _ h)

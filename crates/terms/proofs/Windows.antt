@@ -59,22 +59,22 @@ windows_from_cuts k w ws c =
 
 -- a window of the list stands at some place, and what stands at a place is a window
 pub window_has : (k : ℕ) (w u : List ℕ) → WindowOf k w u → Has (windows k w) u
-window_has k w u (inl (h, e)) = rw (windows_short k w h) (0, omega arith, λ d. sym e)
+window_has k w u (inl (h, e)) = rw (windows_short k w h) (0, omega arith, sym e)
 window_has k w u (inr (h, long, (before, after, split))) =
     let total : length w ≡ length before + (length u + length after) = ap length split ∙ length-append before (u ++ after) ∙ ap (λ m. length before + m) (length-append u after) in
     let at : RunAt w k (length before) u = record { before = before; after = after; split = split; place = refl; long = long } in
-    rw (windows_long k w h) (length before, rw (length_runs k w) (omega arith), λ d. getD_runs k w (length before) d (omega arith) ∙ sym (run_is at))
+    rw (windows_long k w h) (length before, rw (length_runs k w) (omega arith), getD_runs k w (length before) u (omega arith) ∙ sym (run_is at))
 
 pub has_window : (k : ℕ) (w u : List ℕ) → Has (windows k w) u → WindowOf k w u
 has_window k w u (p, l, at) =
     ⊎_elim
     (λ long.
     let many : length (windows k w) ≡ length w + 1 - k = ap length (windows_long k w long) ∙ length_runs k w in
-    let r : RunAt w k p u = subst (RunAt w k p) (at []) ((cuts_windows k w).runs long p l) in
+    let r : RunAt w k p u = subst (RunAt w k p) (get_or_default (windows k w) p [] u l ∙ at) ((cuts_windows k w).runs long p l) in
     inr (long, r.long, (r.before, r.after, r.split)))
     (λ short.
     let one : p ≡ 0 = omega (arith, ap length (windows_short k w short)) in
-    inl (short, sym (at w) ∙ ap (λ ws. get_or ws p w) (windows_short k w short) ∙ ap (λ q. get_or (w ∷ []) q w) one))
+    inl (short, sym (get_or_default (windows k w) p w u l ∙ at) ∙ ap (λ ws. get_or ws p w) (windows_short k w short) ∙ ap (λ q. get_or (w ∷ []) q w) one))
     (cases_lt k (length w))
 
 pub members_from_windows : (k : ℕ) (w : List ℕ) (ws : List (List ℕ)) → ws ≡ windows k w → (u : List ℕ) → (Has ws u → WindowOf k w u) × (WindowOf k w u → Has ws u)

@@ -1,4 +1,6 @@
 // The refusals of the route book, and the definitions that every crate above cites.
+#![tactic(auto)]
+
 ghost use Rattle.std.specs.Prelude.{◌≡◌};
 ghost use Rattle.terms.specs.Refusals.{number};
 

@@ -1,4 +1,6 @@
 // Process trees: the nodes of a table, and the laws of their routes.
+#![tactic(auto)]
+
 ghost use Rattle.tree_laws.specs.Laws.{ChoiceLaws, SequenceLaws, LoopLaws, ParallelLaws, NodeLaws, WindowLaws};
 ghost use Rattle.tree_laws.specs.Standings.{ComputedLaws, StandingLaws};
 

@@ -1,4 +1,6 @@
 // Process trees: which tables are trees, and the rows of a tree in a rack.
+#![tactic(auto)]
+
 mod check;
 mod nodes;
 mod raw;

@@ -23,7 +23,7 @@ impl Tree {
     // Puts in the row of the word at the node after the first `m`.
     fn write_row<R: Rack>(&self, rack: &mut R, m: usize, word: &[u8]) -> Result<(), Refusal>
         requires { m < self.now.len }
-        ensures { Step view sound unused rack.old rack.new (For self.now MoreRows) (For self.now NextWord m word.now) (For self.now Underway m (code self.now.alphabet.moves word.now + 1)) result }
+        ensures { Step R.view R.sound R.unused rack.old rack.new (For self.now MoreRows) (For self.now NextWord m word.now) (For self.now Underway m (code self.now.alphabet.moves word.now + 1)) result }
     {
         let number = standing(&self.alphabet, self.nodes[m], rack, word);
         let Some(code) = self.alphabet.code(word) else {
@@ -36,7 +36,7 @@ impl Tree {
     fn place<R: Rack>(&self, rack: &mut R, m: usize, word: &[u8]) -> Result<(), Refusal>
         requires inside { m < self.now.len }
         requires some { 0 < length word.now }
-        ensures { Step view sound unused rack.old rack.new (For self.now MoreRows) (For self.now NextWord m word.now) (For self.now Underway m (code self.now.alphabet.moves word.now + 1)) result }
+        ensures { Step R.view R.sound R.unused rack.old rack.new (For self.now MoreRows) (For self.now NextWord m word.now) (For self.now Underway m (code self.now.alphabet.moves word.now + 1)) result }
     {
         let Some((_, tail)) = word.split_first() else {
             return Ok(());
@@ -50,7 +50,7 @@ impl Tree {
     // Tries every move behind the word with this code, which has a row.
     fn extend<R: Rack>(&self, rack: &mut R, m: usize, parent: u32) -> Result<(), Refusal>
         requires { m < self.now.len }
-        ensures { Step view sound unused rack.old rack.new (For self.now MoreRows) (For self.now NextParent m parent) (For self.now Underway m ((parent + 1) * base self.now.alphabet.moves + 1)) result }
+        ensures { Step R.view R.sound R.unused rack.old rack.new (For self.now MoreRows) (For self.now NextParent m parent) (For self.now Underway m ((parent + 1) * base self.now.alphabet.moves + 1)) result }
     {
         let Some(word) = self.alphabet.word(parent) else {
             return Ok(());
@@ -71,7 +71,7 @@ impl Tree {
     // finds them all, in the order of their keys.
     fn write_longer<R: Rack>(&self, rack: &mut R, m: usize) -> Result<(), Refusal>
         requires { m < self.now.len }
-        ensures { Step view sound unused rack.old rack.new (For self.now MoreRows) (For self.now Underway m 1) (For self.now Finished (m + 1)) result }
+        ensures { Step R.view R.sound R.unused rack.old rack.new (For self.now MoreRows) (For self.now Underway m 1) (For self.now Finished (m + 1)) result }
     {
         let base = self.alphabet.base();
         let limit = self.alphabet.code_limit();
@@ -94,7 +94,7 @@ impl Tree {
     // Puts in the rows of the node after the first `m`, that of the empty word first.
     fn write_node<R: Rack>(&self, rack: &mut R, m: usize) -> Result<(), Refusal>
         requires { m < self.now.len }
-        ensures { Step view sound unused rack.old rack.new (For self.now MoreRows) (For self.now Finished m) (For self.now Finished (m + 1)) result }
+        ensures { Step R.view R.sound R.unused rack.old rack.new (For self.now MoreRows) (For self.now Finished m) (For self.now Finished (m + 1)) result }
     {
         self.write_row(rack, m, &[])?;
         self.write_longer(rack, m)
@@ -102,7 +102,7 @@ impl Tree {
 
     // Puts in the rows of all nodes, children before their parents.
     pub(crate) fn write_nodes<R: Rack>(&self, rack: &mut R) -> Result<(), Refusal>
-        ensures { Step view sound unused rack.old rack.new (For self.now MoreRows) (For self.now Finished 0) (For self.now Finished self.now.len) result }
+        ensures { Step R.view R.sound R.unused rack.old rack.new (For self.now MoreRows) (For self.now Finished 0) (For self.now Finished self.now.len) result }
     {
         for m in 0..self.len {
             self.write_node(rack, m)?;

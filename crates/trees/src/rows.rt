@@ -12,8 +12,8 @@ use terms::Refusal;
 impl Tree {
     // Puts all rows into an empty rack. The answer is by how many keys the windows' rows are more than the nodes'.
     fn put_rows<R: Rack>(&self, rack: &mut R) -> Result<u32, Refusal>
-        ensures step { Step view sound unused rack.old rack.new (For self.now MoreRows) (For self.now Finished 0) (For self.now Complete) result }
-        ensures count { sound rack.old → For self.now Finished 0 (view rack.old) → IfOk result (λ c. PlayableCount (tree_nodes self.now) self.now.alphabet.order c) }
+        ensures step { Step R.view R.sound R.unused rack.old rack.new (For self.now MoreRows) (For self.now Finished 0) (For self.now Complete) result }
+        ensures count { R.sound rack.old → For self.now Finished 0 (R.view rack.old) → IfOk result (λ c. PlayableCount (tree_nodes self.now) self.now.alphabet.order c) }
     {
         self.write_nodes(rack)?;
         let nodes = rack.held();
@@ -31,9 +31,9 @@ impl Tree {
 
     // Puts the tree's rows into the rack and answers how many windows are playable.
     pub fn write_rows<R: Rack>(&self, rack: &mut R) -> Result<u32, Refusal>
-        ensures outcome { sound rack.old → For self.now Outcome (view rack.old) (view rack.new) result }
-        ensures stays_sound { sound rack.old → sound rack.new }
-        ensures memory { unused rack.new ≡ unused rack.old }
+        ensures outcome { R.sound rack.old → For self.now Outcome (R.view rack.old) (R.view rack.new) result }
+        ensures stays_sound { R.sound rack.old → R.sound rack.new }
+        ensures memory { R.unused rack.new ≡ R.unused rack.old }
     {
         if rack.reach() < self.key_limit() {
             return Err(Refusal::ModelReach);

@@ -86,7 +86,7 @@ impl Tree {
         marks: u32,
     ) -> Result<(), Refusal>
         requires { marks < 4 }
-        ensures { Step view sound unused rack.old rack.new (For self.now MoreRows) (For self.now NextWindow word.now standing marks) (For self.now Windows (turn self.now.alphabet.moves marks word.now + 1)) result }
+        ensures { Step R.view R.sound R.unused rack.old rack.new (For self.now MoreRows) (For self.now NextWindow word.now standing marks) (For self.now Windows (turn self.now.alphabet.moves marks word.now + 1)) result }
     {
         if standing & (1 << marks) == 0 {
             return Ok(());
@@ -110,7 +110,7 @@ impl Tree {
 
     // Puts in the windows around the word with this code, which has a row at the root.
     fn windows_around<R: Rack>(&self, rack: &mut R, code: u32) -> Result<(), Refusal>
-        ensures { Step view sound unused rack.old rack.new (For self.now MoreRows) (For self.now NextRootWord code) (For self.now Windows (4 * (code + 1))) result }
+        ensures { Step R.view R.sound R.unused rack.old rack.new (For self.now MoreRows) (For self.now NextRootWord code) (For self.now Windows (4 * (code + 1))) result }
     {
         let Some(word) = self.alphabet.word(code) else {
             return Ok(());
@@ -124,7 +124,7 @@ impl Tree {
 
     // Puts in all windows, by a walk over the root's rows.
     pub(crate) fn put_windows<R: Rack>(&self, rack: &mut R) -> Result<(), Refusal>
-        ensures { Step view sound unused rack.old rack.new (For self.now MoreRows) (For self.now Finished (length (tree_nodes self.now))) (For self.now Complete) result }
+        ensures { Step R.view R.sound R.unused rack.old rack.new (For self.now MoreRows) (For self.now Finished (length (tree_nodes self.now))) (For self.now Complete) result }
     {
         let limit = self.alphabet.code_limit();
         let start = self.root_start();

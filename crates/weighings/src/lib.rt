@@ -1,4 +1,6 @@
 // Weighings: what a window weighs.
+#![tactic(auto)]
+
 ghost use Rattle.std.specs.Prelude.{◌≡◌, ℕ, max, List, IfSome, if◌then◌else◌, MatchOption};
 ghost use Rattle.terms.specs.Words.{Move};
 ghost use Rattle.weighings.specs.Weights.{InRange, move_weight, is_move, dearest, IsDearest};

@@ -1,4 +1,6 @@
 // Plays, their windows, and the codes of words.
+#![tactic(auto)]
+
 mod alphabet;
 mod checks;
 mod codes;
