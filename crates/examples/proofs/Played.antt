@@ -1,7 +1,7 @@
 -- Computed tests tell that a table is well_formed, that a list has exactly its playable windows, and that one is not playable.
 use Rattle.std.proofs.Common.{◌≡◌, ℕ, zero, suc, ◌+◌, ◌-◌, ◌^◌, ◌<◌, ◌≤◌, Bool, true, false, cond, not, ◌&&◌, ◌||◌, eqb, ltb, leb, List, [], ◌∷◌, length, get_or, Decides, All, Contains, filter, sym, refl, subst, arith}
 use Rattle.std.specs.Str.{bytes_eq}
-use Rattle.std.proofs.lemmas.List.Elements.{All-contains}
+use Rattle.std.proofs.lemmas.List.Elements.{All-cons, All-contains, All-head, All-nil, All-tail, Decides-contains}
 use Rattle.std.proofs.lemmas.Slice.Eq.{bytes_eq-Decides}
 use Rattle.std.proofs.lemmas.Bool.{and_parts, leb-true, le-leb, ltb-true, not-true, false≢true}
 use Rattle.std.proofs.lemmas.Bool.Decides.{Decides-and, Decides-below_and, Decides-by_and, Decides-by_or, Decides-at, Decides-eqb, not_from_Decides}
@@ -37,11 +37,11 @@ each_word_at : (n k : ℕ) (f : List ℕ → Bool) → each_word n k f ≡ true 
 each_word_at n zero f e [] moves short = e
 each_word_at n zero f e (x ∷ u) moves short = absurd (omega arith)
 each_word_at n (suc k) f e [] moves short = (and_parts _ _ e).0
-each_word_at n (suc k) f e (zero ∷ u) moves short = absurd (omega (arith, moves.0))
+each_word_at n (suc k) f e (zero ∷ u) moves short = absurd (omega (arith, All-head (Move n) zero u moves))
 each_word_at n (suc k) f e (suc m ∷ u) moves short =
-    let m_below : m < n = omega (arith, moves.0) in
+    let m_below : m < n = omega (arith, All-head (Move n) (suc m) u moves) in
     let short' : length u ≤ k = omega arith in
-    each_word_at n k (λ u. f (suc m ∷ u)) (below_at n (λ m. each_word n k (λ u. f (suc m ∷ u))) (and_parts _ _ e).1 m m_below) u moves.1 short'
+    each_word_at n k (λ u. f (suc m ∷ u)) (below_at n (λ m. each_word n k (λ u. f (suc m ∷ u))) (and_parts _ _ e).1 m m_below) u (All-tail (Move n) (suc m) u moves) short'
 
 -- ---- the standing of a word, through the nodes with lower numbers
 
@@ -104,7 +104,7 @@ listed x [] = false
 listed x (w ∷ ws) = bytes_eq w x || listed x ws
 
 decides_listed : (ws : List (List ℕ)) (x : List ℕ) → Decides (listed x ws) (Contains ws x)
-decides_listed ws x = Decides-by_or (λ w. bytes_eq w x) (λ w. w ≡ x) (listed x) (λ w. bytes_eq-Decides w x) refl (λ _ _. refl) ws
+decides_listed ws x = Decides-contains ws x _ (Decides-by_or (λ w. bytes_eq w x) (λ w. w ≡ x) (listed x) (λ w. bytes_eq-Decides w x) refl (λ _ _. refl) ws)
 
 abbrev pub moves_only : ℕ → List ℕ → Bool
 moves_only n [] = true
@@ -146,8 +146,8 @@ all_with_marks n k [] = true
 all_with_marks n k (x ∷ xs) = is_with_marks n k x && all_with_marks n k xs
 
 markings : (n k : ℕ) (xs : List (List ℕ)) → all_with_marks n k xs ≡ true → All (Marking n k) xs
-markings n k [] e = tt
-markings n k (x ∷ xs) e = let (here, rest) = and_parts _ _ e in (marking n k x here, markings n k xs rest)
+markings n k [] e = All-nil (Marking n k)
+markings n k (x ∷ xs) e = let (here, rest) = and_parts _ _ e in All-cons (Marking n k) x xs (marking n k x here) (markings n k xs rest)
 
 abbrev pub same : Bool → Bool → Bool
 same a b = cond a b (not b)

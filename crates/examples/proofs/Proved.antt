@@ -2,6 +2,7 @@
 use Rattle.std.proofs.Common.{◌≡◌, ℕ, Bool, true, false, ◌&&◌, eqb, List, [], ◌∷◌, All, refl}
 use Rattle.std.specs.Str.{bytes_eq}
 use Rattle.std.proofs.lemmas.Slice.Eq.{bytes_eq-Decides}
+use Rattle.std.proofs.lemmas.List.Elements.{All-cons, All-nil}
 use Rattle.std.proofs.lemmas.Bool.{and_parts, eqb-true, false≢true}
 use Rattle.terms.specs.Codes.{code}
 use Rattle.terms.specs.Words.{marked, windows}
@@ -40,8 +41,8 @@ all_pass [] = true
 all_pass (x ∷ xs) = passes x && all_pass xs
 
 from_tests : (xs : List Example) → all_pass xs ≡ true → All Holds xs
-from_tests [] e = tt
-from_tests (x ∷ xs) e = let (here, rest) = and_parts _ _ e in (holds x here, from_tests xs rest)
+from_tests [] e = All-nil Holds
+from_tests (x ∷ xs) e = let (here, rest) = and_parts _ _ e in All-cons Holds x xs (holds x here) (from_tests xs rest)
 
 pub all_hold : All Holds examples
 all_hold = from_tests examples refl

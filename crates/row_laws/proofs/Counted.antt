@@ -1,7 +1,7 @@
 -- How many windows are playable, and whether the rows have room, by the count of the held keys.
 use Rattle.std.proofs.Common.{◌≡◌, ℕ, ◌*◌, ◌^◌, ◌<◌, ◌≤◌, List, ◌∷◌, map, length, Contains, sym, ap, ◌∙◌, subst, inl, inr, ⊎_elim, mul-le-mul_right, add-mul, arith}
 use Rattle.std.specs.Int.Digits.{digits_of}
-use Rattle.std.proofs.lemmas.List.Elements.{All-contains_itself, All-weaker}
+use Rattle.std.proofs.lemmas.List.Elements.{All-cons, All-contains_itself, All-weaker}
 use Rattle.std.proofs.lemmas.List.{length-map}
 use Rattle.terms.specs.Codes.{base, code, item}
 use Rattle.terms.specs.Words.{IsWindow, Moves}
@@ -107,9 +107,8 @@ pub more_rows : {n k : ℕ} {t : List Node} {f : ℕ → ℕ} {new room : ℕ} (
 more_rows {n} {k} {t} {f} {new} {room} reach rows row free used = record {
   keys = new ∷ keys_below f reach;
   distinct = (λ h. omega (arith, (keys_below_held f reach new h).1), distinct_keys_below f reach);
-  rows = (
-    row,
-    All-weaker (Contains (keys_below f reach)) (HasRow n k t) (λ key h. rows key (keys_below_held f reach key h).1) (keys_below f reach) (All-contains_itself (keys_below f reach)),
-  );
+  rows =
+      All-cons (HasRow n k t) new (keys_below f reach) row
+      (All-weaker (Contains (keys_below f reach)) (HasRow n k t) (λ key h. rows key (keys_below_held f reach key h).1) (keys_below f reach) (All-contains_itself (keys_below f reach)));
   more = omega (arith, length_keys_below f reach);
 }

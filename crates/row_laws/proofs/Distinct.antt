@@ -7,13 +7,13 @@ use Rattle.row_laws.specs.Lists.{Distinct}
 
 module _ {X : Type 0} where
   pub has_first : (x : X) (xs : List X) → Contains (x ∷ xs) x
-  has_first x xs = (0, omega arith, λ d. refl)
+  has_first x xs = (0, omega arith, refl)
 
   pub has_rest : (y : X) (xs : List X) (x : X) → Contains xs x → Contains (y ∷ xs) x
   has_rest y xs x (k, l, at) = (suc k, omega arith, at)
 
   pub has_cases : (y : X) (xs : List X) (x : X) → Contains (y ∷ xs) x → (y ≡ x) ⊎ Contains xs x
-  has_cases y xs x (zero, l, at) = inl (at y)
+  has_cases y xs x (zero, l, at) = inl at
   has_cases y xs x (suc k, l, at) = inr (k, omega arith, at)
 
   pub has_none : (x : X) → Contains [] x → ⊥
@@ -22,7 +22,7 @@ module _ {X : Type 0} where
   -- what stands in a list has a part before it and a part after it
   has_split : (ys : List X) (x : X) → Contains ys x → (a : List X) × (b : List X) × (ys ≡ a ++ (x ∷ b))
   has_split [] x h = absurd (has_none x h)
-  has_split (y ∷ ys) x (zero, l, at) = ([], ys, ap (λ z. z ∷ ys) (at y))
+  has_split (y ∷ ys) x (zero, l, at) = ([], ys, ap (λ z. z ∷ ys) at)
   has_split (y ∷ ys) x (suc k, l, at) = let (a, b, e) = has_split ys x (k, omega arith, at) in (y ∷ a, b, ap (λ z. y ∷ z) e)
 
   has_without : (a b : List X) (x z : X) → Contains (a ++ (x ∷ b)) z → (x ≡ z) ⊎ Contains (a ++ b) z

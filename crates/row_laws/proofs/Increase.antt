@@ -1,8 +1,7 @@
 -- By how many keys the rows of the windows are more than those of the nodes.
-use Rattle.std.proofs.Common.{◌≡◌, ℕ, zero, suc, ◌+◌, ◌-◌, ◌*◌, ◌^◌, ◌<◌, ◌≤◌, ◌⊎◌, List, length, sym, refl, ap, ◌∙◌, subst, inl, inr, ⊎_elim, add-zero, add-suc, arith}
+use Rattle.std.proofs.Common.{◌≡◌, ℕ, zero, suc, ◌+◌, ◌-◌, ◌^◌, ◌<◌, ◌≤◌, List, length, sym, ap, ◌∙◌, subst, inl, inr, ⊎_elim, add-zero, add-suc, arith}
 use Rattle.std.proofs.lemmas.Bool.{cases_lt}
 use Rattle.terms.specs.Codes.{base, code}
-use Rattle.terms.specs.Words.{Moves}
 use Rattle.terms.proofs.Codes.{code_below}
 use Rattle.tree_laws.specs.Facts.{Standing}
 use Rattle.tree_laws.specs.Routes.{WellFormed}
@@ -10,9 +9,9 @@ use Rattle.tree_laws.specs.declared.Node.{Node}
 use Rattle.tree_laws.proofs.Computed.{bits_at, unique_standing}
 use Rattle.tree_laws.proofs.Windows.{node_laws_lem}
 use Rattle.racks.specs.Counts.{held_count_none, held_count_same}
-use Rattle.racks.specs.Views.{held_count, one_if_held}
+use Rattle.racks.specs.Views.{held_count}
 use Rattle.row_laws.specs.Progress.{NodeKey, Upto}
-use Rattle.row_laws.specs.Rows.{HasRow, NodeRow, WindowRow, RowsAt, row_key}
+use Rattle.row_laws.specs.Rows.{HasRow, RowsAt, row_key}
 use Rattle.row_laws.proofs.WithMarks.{window_word}
 use Rattle.row_laws.proofs.Windowed.{node_key_high}
 

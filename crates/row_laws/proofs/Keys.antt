@@ -1,5 +1,5 @@
 -- Words of moves have codes below the base's power, and the keys of their rows tell nodes and words apart.
-use Rattle.std.proofs.Common.{◌≡◌, ℕ, ◌+◌, ◌*◌, ◌/◌, ◌%◌, ◌^◌, ◌<◌, ◌≤◌, List, [], ◌∷◌, ◌++◌, length, All, sym, refl, ap, ◌∙◌, subst, inl, arith}
+use Rattle.std.proofs.Common.{◌≡◌, ℕ, ◌+◌, ◌*◌, ◌/◌, ◌%◌, ◌^◌, ◌<◌, ◌≤◌, List, [], ◌∷◌, ◌++◌, length, All, sym, ap, ◌∙◌, inl}
 use lib.Arith.{digits_div, digits_mod}
 use Rattle.std.proofs.lemmas.List.Elements.{All-weaker}
 use Rattle.terms.specs.Codes.{Item, Word, base, code}

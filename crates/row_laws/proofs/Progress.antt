@@ -1,6 +1,7 @@
 -- One row more, words that no route contains, and the end of a node: what is kept while rows are put in.
-use Rattle.std.proofs.Common.{◌≡◌, ℕ, suc, ◌+◌, ◌*◌, ◌^◌, ◌<◌, ◌≤◌, ◌⊎◌, List, [], ◌∷◌, ◌++◌, length, drop, sym, refl, ap, ◌∙◌, subst, inl, inr, ⊎_elim, mul-le-mul_right, add-mul, mul-le-mul_left, arith}
+use Rattle.std.proofs.Common.{◌≡◌, ℕ, ◌+◌, ◌*◌, ◌^◌, ◌<◌, ◌≤◌, List, [], ◌∷◌, ◌++◌, length, sym, refl, ap, ◌∙◌, subst, ⊎_elim, mul-le-mul_right, add-mul, mul-le-mul_left, arith}
 use Rattle.std.proofs.lemmas.List.{length_push}
+use Rattle.std.proofs.lemmas.List.Elements.{All-nil, All-tail}
 use Rattle.std.proofs.lemmas.Bool.{cases_Bool, cases_eq, cases_lt}
 use Rattle.std.proofs.lemmas.Bool.Decides.{not_from_Decides}
 use Rattle.terms.specs.Codes.{base, code}
@@ -15,7 +16,7 @@ use Rattle.tree_laws.proofs.Rows.{none_longer, none_around}
 use Rattle.tree_laws.specs.Computed.{has}
 use Rattle.racks.specs.Counts.{written_here, written_other, written_same}
 use Rattle.racks.specs.Views.{written}
-use Rattle.row_laws.specs.Progress.{NodeKey, Standings, Upto, InProgress}
+use Rattle.row_laws.specs.Progress.{NodeKey, Upto, InProgress}
 use Rattle.row_laws.specs.Rows.{row_key, NodeRow}
 use Rattle.row_laws.proofs.Keys.{items_from_moves, code_of_moves, code_of_push, same_word, row_keys_apart}
 
@@ -208,7 +209,7 @@ module _ (n k : ℕ) (few : n ≤ 12) where
     pub progress_start : (f : ℕ → ℕ) (s : ℕ) → Upto n k t m f → Standing t (m + 1) [] s → InProgress n k t m (0 * base n + 1) (written f (row_key n k (m + 1) []) s)
     progress_start f s h stands =
         let one : 0 + 1 ≡ 0 * base n + 1 = omega arith in
-        subst (λ d. InProgress n k t m d (written f (row_key n k (m + 1) []) s)) one (progress_write n k few t m [] tt (omega arith) f s (progress_none n k few t m f h) stands)
+        subst (λ d. InProgress n k t m d (written f (row_key n k (m + 1) []) s)) one (progress_write n k few t m [] (All-nil (Move n)) (omega arith) f s (progress_none n k few t m f h) stands)
 
     module _ (d : ℕ) (f : ℕ → ℕ) (h : InProgress n k t m d f) where
       -- a word whose tail is not held is contained in no route
@@ -216,8 +217,8 @@ module _ (n k : ℕ) (few : n ≤ 12) where
       stands_by_tail x w moves short is gone =
           let (r, stands) = standing_laws_lem.exists n t wf (m + 1) (omega arith) inside (x ∷ w) in
           let fits : length w ≤ k = omega arith in
-          let less : code n w < d = subst (λ c. code n w < c) is (code_longer n few w (x ∷ w) (items_from_moves n w moves.1) (items_from_moves n (x ∷ w) moves) (omega arith)) in
-          subst (Standing t (m + 1) (x ∷ w)) (none_around n t wf (m + 1) (omega arith) inside (x ∷ w) _ r (h.done w moves.1 fits less) stands gone) stands
+          let less : code n w < d = subst (λ c. code n w < c) is (code_longer n few w (x ∷ w) (items_from_moves n w (All-tail (Move n) x w moves)) (items_from_moves n (x ∷ w) moves) (omega arith)) in
+          subst (Standing t (m + 1) (x ∷ w)) (none_around n t wf (m + 1) (omega arith) inside (x ∷ w) _ r (h.done w (All-tail (Move n) x w moves) fits less) stands gone) stands
 
       -- every held key is that of a word that some route contains
       pub progress_rows : (key : ℕ) → 0 < f key → NodeRow n k t key

@@ -1,6 +1,6 @@
 -- The words of moves with their marks: their codes, that these tell them apart, and that they are exactly the windows.
 use Rattle.std.proofs.Common.{◌≡◌, ℕ, zero, suc, ◌*◌, ◌^◌, ◌<◌, ◌≤◌, Bool, cond, eqb, ltb, List, [], ◌∷◌, ◌++◌, length, Decides, All, sum_by, filter, sym, refl, ap, ◌∙◌, subst, inl, inr, append-nil, arith}
-use Rattle.std.proofs.lemmas.List.Elements.{All-push, All-weaker, filter-append}
+use Rattle.std.proofs.lemmas.List.Elements.{All-cons, All-head, All-push, All-tail, All-weaker, filter-append}
 use Rattle.std.proofs.lemmas.List.{length_push}
 use Rattle.std.proofs.lemmas.List.Sums.{sum_by-cons, sum_by_push}
 use Rattle.std.proofs.lemmas.Bool.{lt-ltb, ne_eqb}
@@ -46,15 +46,16 @@ module _ (n : ℕ) (few : n ≤ 12) where
 
   pub with_marks_items : (i : ℕ) (u : List ℕ) → Moves n u → All (Item n) (with_marks i u)
   with_marks_items zero u moves = moves_items u moves
-  with_marks_items (suc zero) u moves = (inr (inl refl), moves_items u moves)
+  with_marks_items (suc zero) u moves = All-cons (Item n) start_mark u (inr (inl refl)) (moves_items u moves)
   with_marks_items (suc (suc zero)) u moves = All-push (Item n) u end_mark (moves_items u moves) (inr (inr refl))
-  with_marks_items (suc (suc (suc i))) u moves = (inr (inl refl), All-push (Item n) u end_mark (moves_items u moves) (inr (inr refl)))
+  with_marks_items (suc (suc (suc i))) u moves = All-cons (Item n) start_mark (u ++ (end_mark ∷ [])) (inr (inl refl)) (All-push (Item n) u end_mark (moves_items u moves) (inr (inr refl)))
 
   mark_values_moves : (u : List ℕ) → Moves n u → sum_by mark_value u ≡ 0
   mark_values_moves [] h = refl
   mark_values_moves (x ∷ u) h =
+      let first : Move n x = All-head (Move n) x u h in
       let here : mark_value x ≡ 0 = rw (ne_eqb x start_mark (λ e. omega arith), ne_eqb x end_mark (λ e. omega arith)) in
-      omega (arith, sum_by-cons mark_value x u, mark_values_moves u h.1)
+      omega (arith, sum_by-cons mark_value x u, mark_values_moves u (All-tail (Move n) x u h))
 
   -- the marks come back
   mark_values_with_marks : (i : ℕ) (u : List ℕ) → i < 4 → Moves n u → sum_by mark_value (with_marks i u) ≡ i
@@ -66,7 +67,9 @@ module _ (n : ℕ) (few : n ≤ 12) where
 
   kept_moves : (u : List ℕ) → Moves n u → filter no_mark u ≡ u
   kept_moves [] h = refl
-  kept_moves (x ∷ u) h = rw (lt-ltb x start_mark (omega arith)) (ap (λ l. x ∷ l) (kept_moves u h.1))
+  kept_moves (x ∷ u) h =
+      let first : Move n x = All-head (Move n) x u h in
+      rw (lt-ltb x start_mark (omega arith)) (ap (λ l. x ∷ l) (kept_moves u (All-tail (Move n) x u h)))
 
   kept_pushed : (u : List ℕ) → Moves n u → filter no_mark (u ++ (end_mark ∷ [])) ≡ u
   kept_pushed u h = filter-append no_mark u (end_mark ∷ []) ∙ append-nil (filter no_mark u) ∙ kept_moves u h

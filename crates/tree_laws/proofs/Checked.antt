@@ -1,5 +1,5 @@
 -- The tests of a table tell that it is well_formed.
-use Rattle.std.proofs.Common.{◌≡◌, ℕ, ◌-◌, ◌<◌, ◌≤◌, true, ◌&&◌, ltb, leb, List, get_or, Decides, refl}
+use Rattle.std.proofs.Common.{ℕ, ◌-◌, ◌≤◌, leb, List, get_or, Decides, refl}
 use Rattle.std.proofs.lemmas.Bool.{leb-true, le-leb}
 use Rattle.std.proofs.lemmas.Bool.Decides.{Decides-ltb, Decides-and}
 use Rattle.tree_laws.specs.declared.Node.{Node}

@@ -2,7 +2,7 @@
 use Rattle.std.proofs.Common.{◌≡◌, ℕ, zero, suc, ◌+◌, ◌-◌, ◌*◌, ◌/◌, ◌%◌, ◌<◌, ◌≤◌, Bool, true, false, cond, not, eqb, ◌↔◌, List, length, get_or, Decides, All, sym, refl, ap, ◌∙◌, ⊎_elim, mod-eq_of_lt, one-mul, div-add-mod', zero-mul, div-one, arith, length-drop, length-take}
 use lib.Bits.{bit_and, and_high}
 use Rattle.std.proofs.lemmas.Nat.{shr-shr}
-use Rattle.std.proofs.lemmas.List.Elements.{All-take, All-drop}
+use Rattle.std.proofs.lemmas.List.Elements.{All-cons, All-drop, All-head, All-nil, All-tail, All-take}
 use Rattle.std.proofs.lemmas.Bool.{eqb-true, eq-eqb, not_from_true, both_ways, cases_Bool}
 use Rattle.std.proofs.lemmas.Bool.Decides.{same_from_decides, Decides-at, Decides-like}
 use Rattle.terms.specs.Words.{Move, Moves}
@@ -183,9 +183,9 @@ record Short (n k : ℕ) (u : List ℕ) : Type 0 where
   short : length u ≤ k
 
 parts_all : (P : ℕ → Type 0) {x y w : List ℕ} → Interleaving x y w → All P w → All P x × All P y
-parts_all P none h = (tt, tt)
-parts_all P (from_left i) h = let r = parts_all P i h.1 in ((h.0, r.0), r.1)
-parts_all P (from_right i) h = let r = parts_all P i h.1 in (r.0, (h.0, r.1))
+parts_all P none h = (All-nil P, All-nil P)
+parts_all P (from_left i) h = let r = parts_all P i (All-tail P _ _ h) in (All-cons P _ _ (All-head P _ _ h) r.0, r.1)
+parts_all P (from_right i) h = let r = parts_all P i (All-tail P _ _ h) in (r.0, All-cons P _ _ (All-head P _ _ h) r.1)
 
 parts_long : {x y w : List ℕ} → Interleaving x y w → length x + length y ≡ length w
 parts_long none = refl
@@ -194,7 +194,7 @@ parts_long (from_right i) = omega (arith, parts_long i)
 
 short_closed : (n k : ℕ) → Closed (Short n k)
 short_closed n k = record {
-  ok_nil = record { moves = tt; short = omega arith };
+  ok_nil = record { moves = All-nil (Move n); short = omega arith };
   ok_take = λ j u h. record { moves = All-take (Move n) j u h.moves; short = omega (arith, h.short, length-take j u) };
   ok_drop = λ j u h. record { moves = All-drop (Move n) j u h.moves; short = omega (arith, h.short, length-drop j u) };
   ok_picked = λ j u h. record { moves = (parts_all (Move n) (selected j u) h.moves).0; short = omega (arith, h.short, parts_long (selected j u)) };

@@ -1,6 +1,6 @@
 -- The routes of a node as a language made of those of its children.
 use Rattle.std.proofs.Common.{◌≡◌, ℕ, zero, suc, ◌-◌, ◌≤◌, Bool, true, false, ◌⊎◌, List, [], ◌∷◌, ◌++◌, length, get_or, sym, refl, ap, ◌∙◌, subst, inl, inr, ⊎_elim, append-nil, arith}
-use Rattle.std.proofs.lemmas.List.Elements.{All-append}
+use Rattle.std.proofs.lemmas.List.Elements.{All-append, All-cons, All-head, All-nil, All-tail}
 use Rattle.terms.specs.Words.{Move, Moves}
 use Rattle.tree_laws.specs.declared.Node.{Node}
 use Rattle.tree_laws.specs.declared.Node.TheVariants.{Skip, Move as Single, Choice, Sequence, Loop, Parallel}
@@ -92,9 +92,9 @@ from_part false false v u h = whole_of h
 -- ---- well_formed tables
 
 interleaved_moves : (n : ℕ) {x y w : List ℕ} → Interleaving x y w → Moves n x → Moves n y → Moves n w
-interleaved_moves n none p q = tt
-interleaved_moves n (from_left i) p q = (p.0, interleaved_moves n i p.1 q)
-interleaved_moves n (from_right i) p q = (q.0, interleaved_moves n i p q.1)
+interleaved_moves n none p q = All-nil (Move n)
+interleaved_moves n (from_left i) p q = All-cons (Move n) _ _ (All-head (Move n) _ _ p) (interleaved_moves n i (All-tail (Move n) _ _ p) q)
+interleaved_moves n (from_right i) p q = All-cons (Move n) _ _ (All-head (Move n) _ _ q) (interleaved_moves n i p (All-tail (Move n) _ _ q))
 
 module _ (n : ℕ) (t : List Node) (wf : WellFormed n t) where
   pub proper : {v : ℕ} {k : Node} → IsNode t v k → Proper n v k
@@ -122,8 +122,8 @@ module _ (n : ℕ) (t : List Node) (wf : WellFormed n t) where
 
   -- every route consists of moves
   pub route_moves : {v : ℕ} {w : List ℕ} → Route t v w → Moves n w
-  route_moves (skip is) = tt
-  route_moves (single is) = (proper is, tt)
+  route_moves (skip is) = All-nil (Move n)
+  route_moves (single {m = m} is) = All-cons (Move n) m [] (proper is) (All-nil (Move n))
   route_moves (left is r) = route_moves r
   route_moves (right is r) = route_moves r
   route_moves (sequence {x = x} {y = y} is r s) = All-append (Move n) x y (route_moves r) (route_moves s)

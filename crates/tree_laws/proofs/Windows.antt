@@ -1,6 +1,7 @@
 -- What holds at every node of a well_formed table, and which windows its root plays.
 use Rattle.std.proofs.Common.{◌≡◌, ℕ, ◌+◌, ◌<◌, ◌≤◌, Bool, true, false, List, [], ◌∷◌, ◌++◌, length, drop, All, sym, refl, ap, ◌∙◌, subst, inl, inr, append_assoc, append-nil, arith, length-append}
 use Rattle.std.proofs.lemmas.List.{append_cancel_right}
+use Rattle.std.proofs.lemmas.List.Elements.{All-cons, All-head, All-nil, All-tail}
 use Rattle.terms.specs.Words.{Move, Moves, start_mark, end_mark, marked}
 use Rattle.tree_laws.specs.declared.Node.{Node}
 use Rattle.tree_laws.specs.Routes.{Route, WellFormed}
@@ -11,8 +12,8 @@ use Rattle.tree_laws.proofs.Parts.{widen}
 use Rattle.tree_laws.proofs.Nodes.{Fact, to_part, from_part, some_route, route_moves}
 
 pub all_parts : (P : ℕ → Type 0) (x y : List ℕ) → All P (x ++ y) → All P x × All P y
-all_parts P [] y h = (tt, h)
-all_parts P (a ∷ x) y h = let r = all_parts P x y h.1 in ((h.0, r.0), r.1)
+all_parts P [] y h = (All-nil P, h)
+all_parts P (a ∷ x) y h = let r = all_parts P x y (All-tail P _ _ h) in (All-cons P _ _ (All-head P _ _ h) r.0, r.1)
 
 contains_part : {t : List Node} {v : ℕ} (x u y : List ℕ) → SomeContains t v (x ++ (u ++ y)) → SomeContains t v u
 contains_part x u y (w, r, (p, q, e)) = (w, r, (p ++ x, y ++ q, e ∙ simp append_assoc))
@@ -59,28 +60,28 @@ module _ (n : ℕ) (small : n < start_mark) where
   -- a front that consists of moves
   moves_front : (u w a : List ℕ) → Moves n u → w ++ (end_mark ∷ []) ≡ u ++ a → (s : List ℕ) × (w ≡ u ++ s)
   moves_front [] w a h e = (w, refl)
-  moves_front (c ∷ u) [] a h e = let same : end_mark ≡ c = cc in absurd (no_end h.0 (sym same))
+  moves_front (c ∷ u) [] a h e = let same : end_mark ≡ c = cc in absurd (no_end (All-head (Move n) _ _ h) (sym same))
   moves_front (c ∷ u) (d ∷ w) a h e =
       let head : d ≡ c = cc in
-      let r = moves_front u w a h.1 (cc) in
+      let r = moves_front u w a (All-tail (Move n) _ _ h) (cc) in
       (r.0, cc r.1)
 
   -- an end mark stands at the end alone
   end_last : (x w a : List ℕ) → Moves n w → w ++ (end_mark ∷ []) ≡ x ++ (end_mark ∷ a) → w ≡ x
   end_last [] [] a h e = refl
-  end_last [] (d ∷ w) a h e = let same : d ≡ end_mark = cc in absurd (no_end h.0 same)
+  end_last [] (d ∷ w) a h e = let same : d ≡ end_mark = cc in absurd (no_end (All-head (Move n) _ _ h) same)
   end_last (c ∷ x) [] a h e = absurd (omega (arith, simp length-append at (ap length e)))
   end_last (c ∷ x) (d ∷ w) a h e =
       let head : d ≡ c = cc in
-      let r = end_last x w a h.1 (cc) in
+      let r = end_last x w a (All-tail (Move n) _ _ h) (cc) in
       cc
 
   -- the start mark stands nowhere after the first place
   no_start_later : (x w a : List ℕ) → Moves n w → w ++ (end_mark ∷ []) ≡ x ++ (start_mark ∷ a) → ⊥
   no_start_later [] [] a h e = let same : end_mark ≡ start_mark = cc in omega arith
-  no_start_later [] (d ∷ w) a h e = let same : d ≡ start_mark = cc in no_start h.0 same
+  no_start_later [] (d ∷ w) a h e = let same : d ≡ start_mark = cc in no_start (All-head (Move n) _ _ h) same
   no_start_later (c ∷ x) [] a h e = omega (arith, simp length-append at (ap length e))
-  no_start_later (c ∷ x) (d ∷ w) a h e = no_start_later x w a h.1 (cc)
+  no_start_later (c ∷ x) (d ∷ w) a h e = no_start_later x w a (All-tail (Move n) _ _ h) (cc)
 
   module _ (k : ℕ) (t : List Node) (wide : 2 ≤ k) (wf : WellFormed n t) where
     moves_of : {w : List ℕ} → Route t (length t) w → Moves n w
@@ -107,7 +108,7 @@ module _ (n : ℕ) (small : n < start_mark) where
     start_to : (u : List ℕ) → Moves n u → Playable t k (start_mark ∷ u) → SomeBegins t (length t) u
     start_to u h (w, r, inl (l, e)) =
         let tail : u ≡ w ++ (end_mark ∷ []) = cc in
-        absurd (no_end (all_parts (Move n) w (end_mark ∷ []) (subst (Moves n) tail h)).1.0 refl)
+        absurd (no_end (All-head (Move n) end_mark [] (all_parts (Move n) w (end_mark ∷ []) (subst (Moves n) tail h)).1) refl)
     start_to u h (w, r, inr (l, i, ([], a, e))) = (w, r, moves_front u w a h (cc))
     start_to u h (w, r, inr (l, i, (x ∷ b, a, e))) = absurd (no_start_later b w (u ++ a) (moves_of r) (cc))
 
@@ -118,9 +119,9 @@ module _ (n : ℕ) (small : n < start_mark) where
 
     end_to : (u : List ℕ) → Moves n u → length u + 1 ≡ k → Playable t k (u ++ (end_mark ∷ [])) → SomeEnds t (length t) u
     end_to [] h i p = absurd (omega arith)
-    end_to (c ∷ u) h i (w, r, inl (l, e)) = let same : c ≡ start_mark = cc in absurd (no_start h.0 same)
+    end_to (c ∷ u) h i (w, r, inl (l, e)) = let same : c ≡ start_mark = cc in absurd (no_start (All-head (Move n) _ _ h) same)
     end_to (c ∷ u) h i (w, r, inr (l, j, (b, a, e))) =
-        let (b', at) = after_mark c (u ++ (end_mark ∷ [])) b a w h.0 e in
+        let (b', at) = after_mark c (u ++ (end_mark ∷ [])) b a w (All-head (Move n) _ _ h) e in
         (w, r, (b', end_last (b' ++ (c ∷ u)) w a (moves_of r) (at ∙ simp append_assoc)))
 
     end_from : (u : List ℕ) → length u + 1 ≡ k → SomeEnds t (length t) u → Playable t k (u ++ (end_mark ∷ []))
@@ -130,9 +131,9 @@ module _ (n : ℕ) (small : n < start_mark) where
 
     inner_to : (u : List ℕ) → Moves n u → length u ≡ k → Playable t k u → SomeContains t (length t) u
     inner_to [] h i p = absurd (omega arith)
-    inner_to (c ∷ u) h i (w, r, inl (l, e)) = let same : c ≡ start_mark = cc in absurd (no_start h.0 same)
+    inner_to (c ∷ u) h i (w, r, inl (l, e)) = let same : c ≡ start_mark = cc in absurd (no_start (All-head (Move n) _ _ h) same)
     inner_to (c ∷ u) h i (w, r, inr (l, j, (b, a, e))) =
-        let (b', at) = after_mark c u b a w h.0 e in
+        let (b', at) = after_mark c u b a w (All-head (Move n) _ _ h) e in
         let (s, front, back) = front_of b' w c (u ++ a) at in
         let (s', more) = moves_front (c ∷ u) s a h (sym back) in
         (w, r, (b', s', front ∙ ap (λ z. b' ++ z) more))

@@ -1,5 +1,5 @@
 -- The standing of a word at a node, worked out from the standings sa and sb of words at its two children.
-use Rattle.std.specs.Prelude.{ℕ, zero, suc, ◌+◌, ◌-◌, ◌/◌, ◌^◌, Bool, true, false, cond, not, List, [], ◌∷◌, ◌++◌, length, take, drop, ◌==◌, bit_and, bit_or, slice_index, slice_range}
+use Rattle.std.specs.Prelude.{ℕ, zero, suc, ◌+◌, ◌/◌, ◌^◌, Bool, true, false, cond, not, List, [], ◌∷◌, ◌++◌, length, take, drop, ◌==◌, bit_and, bit_or, slice_index, slice_range}
 use Rattle.tree_laws.specs.declared.Node.{Node}
 use Rattle.tree_laws.specs.declared.Node.TheVariants.{Skip, Move as Single, Choice, Sequence, Loop, Parallel}
 use Rattle.tree_laws.specs.Boundaries.{Turn, next_a, next_b, other}
