@@ -1,7 +1,7 @@
 -- The rule of the table of weights, and the law of the dearest move.
 use Rattle.std.specs.Prelude.{◌≡◌, ℕ, zero, suc, ◌-◌, ◌≤◌, max, Bool, true, false, ◌&&◌, ◌⊎◌, List, [], ◌∷◌, All, nat_le, refl}
 use Rattle.std.proofs.Common.{sym, ap, ◌∙◌, inl, inr, arith}
-use Rattle.std.proofs.lemmas.List.Elements.{All-get_or}
+use Rattle.std.proofs.lemmas.List.Elements.{All-nil, All-cons, All-get_or}
 use Rattle.std.proofs.lemmas.Bool.{cases_Bool, cases_lt, and_parts, and_from, leb-true, le-leb, cond-true, cond-false, both_ways}
 use Rattle.terms.specs.Words.{Move}
 use Rattle.weighings.specs.Weights.{InRange, move_weights, move_weight, is_move, dearest, HasMove, IsDearest}
@@ -16,11 +16,11 @@ all_in_range (w ∷ ws) = in_range w && all_in_range ws
 
 from_test : (ws : List ℕ) → all_in_range ws ≡ true → All InRange ws
 unfolding all_in_range in_range
-from_test [] passed = tt
+from_test [] passed = All-nil InRange
 from_test (w ∷ ws) passed =
     let parts = and_parts (in_range w) (all_in_range ws) passed in
     let ends = and_parts (nat_le 1 w) (nat_le w 1000) parts.0 in
-    (record { least = leb-true 1 w ends.0; most = leb-true w 1000 ends.1 }, from_test ws parts.1)
+    All-cons InRange w ws (record { least = leb-true 1 w ends.0; most = leb-true w 1000 ends.1 }) (from_test ws parts.1)
 
 pub table_rule : All InRange move_weights
 unfolding all_in_range in_range
@@ -60,10 +60,10 @@ has_later : (x y : ℕ) (xs : List ℕ) → HasMove xs y → HasMove (x ∷ xs) 
 has_later x y xs has = ((suc has.0.0, omega (arith, has.0.1), has.0.2), has.1)
 
 has_first : (x : ℕ) (xs : List ℕ) → Move 12 x → HasMove (x ∷ xs) x
-has_first x xs move = ((0, omega arith, λ d. refl), move)
+has_first x xs move = ((0, omega arith, refl), move)
 
 has_cases : (x y : ℕ) (xs : List ℕ) → HasMove (x ∷ xs) y → (x ≡ y) ⊎ HasMove xs y
-has_cases x y xs ((zero, inside, here), move) = inl (here 0)
+has_cases x y xs ((zero, inside, here), move) = inl here
 has_cases x y xs ((suc k, inside, here), move) = inr ((k, omega arith, here), move)
 
 none_dearer : (window : List ℕ) (y : ℕ) → HasMove window y → move_weight y ≤ dearest window

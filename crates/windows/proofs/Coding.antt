@@ -1,9 +1,9 @@
 -- The loops that work out a code from a word and a word from a code.
-use Rattle.std.proofs.Common.{◌≡◌, ℕ, suc, ◌+◌, ◌-◌, ◌*◌, ◌/◌, ◌%◌, ◌^◌, ◌<◌, ◌≤◌, ◌⊎◌, List, [], ◌∷◌, ◌++◌, map, length, get_or, take, drop, set, All, sym, refl, ap, ◌∙◌, subst, inl, inr, append_assoc, append-nil, mod-lt, arith}
-use Rattle.std.proofs.lemmas.List.Elements.{All-more, All-get_or}
+use Rattle.std.proofs.Common.{◌≡◌, ℕ, ◌+◌, ◌-◌, ◌*◌, ◌/◌, ◌%◌, ◌^◌, ◌<◌, ◌≤◌, List, [], ◌∷◌, ◌++◌, map, length, get_or, take, drop, set, All, sym, ap, ◌∙◌, subst, append_assoc, append-nil, mod-lt, arith}
+use Rattle.std.proofs.lemmas.List.Elements.{All-nil, All-cons, All-more}
 use Rattle.std.specs.Int.Digits.{digits_of, number_from_digits}
 use Rattle.std.proofs.lemmas.Int.Digits.{digits_of_step, number_digits_of}
-use Rattle.std.proofs.lemmas.List.{length-take-le, length-drop, length-map, length-append, length-set, drop_all, drop-set, drop_more}
+use Rattle.std.proofs.lemmas.List.{length-take-le, length-drop, length-map, length-append, length-set, drop_all, drop-set}
 use Rattle.terms.specs.Codes.{Item, Word, base, digit, item, code}
 use Rattle.terms.proofs.Ends.{all_in_the_middle}
 use Rattle.terms.proofs.Codes.{Positive, positive, digit_item, digits_of_code, code_apart, code_below, code_longer, code_more, code_small}
@@ -44,7 +44,7 @@ module _ (n k : ℕ) (most : n ≤ 12) where
         long = long;
         low = omega arith;
         few = omega arith;
-        words = subst (All (Item n)) (sym none) tt;
+        words = subst (All (Item n)) (sym none) (All-nil (Item n));
         digits = sym (ap (λ l. digits_of (base n) c ++ map (digit n) l) none ∙ append-nil (digits_of (base n) c));
       }
 
@@ -64,7 +64,7 @@ module _ (n k : ℕ) (most : n ≤ 12) where
           long = length-set items at (item n d) ∙ s.long;
           low = omega (arith, s.low);
           few = omega (arith, s.low);
-          words = subst (All (Item n)) (sym ends) (is.0, s.words);
+          words = subst (All (Item n)) (sym ends) (All-cons (Item n) _ _ is.0 s.words);
           digits = all_digits more ∙ sym (ap (λ l. digits_of (base n) (rest / base n) ++ map (digit n) l) ends ∙ ap (λ y. digits_of (base n) (rest / base n) ++ (y ∷ map (digit n) (drop from items))) is.1);
         }
 

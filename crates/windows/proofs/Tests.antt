@@ -1,19 +1,20 @@
 -- The test for a window gives what the definition says.
-use Rattle.std.proofs.Common.{◌≡◌, ℕ, suc, ◌+◌, ◌-◌, ◌<◌, ◌≤◌, Bool, true, false, ◌⊎◌, List, [], ◌∷◌, ◌++◌, length, All, sym, refl, ap, ◌∙◌, subst, inl, inr, ⊎_elim, append-nil, arith}
+use Rattle.std.proofs.Common.{◌≡◌, ℕ, suc, ◌≤◌, Bool, true, false, List, [], ◌∷◌, ◌++◌, length, sym, refl, ap, ◌∙◌, subst, inl, append-nil, arith}
 use Rattle.std.proofs.lemmas.List.{length_push, same_from_push}
-use Rattle.terms.specs.Words.{Move, Moves, start_mark, end_mark, marked, Begins, Ends, Contains, IsWindow}
+use Rattle.std.proofs.lemmas.List.Elements.{All-nil, All-cons, All-head, All-tail}
+use Rattle.terms.specs.Words.{Move, Moves, start_mark, end_mark, marked, IsWindow}
 use Rattle.terms.proofs.Ends.{all_before_last}
-use Rattle.terms.proofs.Shapes.{Shape, whole, at_front, at_back, inside, shape_of, window_of, window_from_moves, moves_from_window, length_marked}
+use Rattle.terms.proofs.Shapes.{Shape, whole, at_front, at_back, inside, shape_of, window_of, window_from_moves, moves_from_window}
 use Rattle.windows.specs.Marks.{StartStripped, EndStripped, Sized}
 
 -- parts of a list of moves are moves
 moves_left : (n : ℕ) (u v : List ℕ) → Moves n (u ++ v) → Moves n u
-moves_left n [] v h = tt
-moves_left n (x ∷ u) v h = (h.0, moves_left n u v h.1)
+moves_left n [] v h = All-nil (Move n)
+moves_left n (x ∷ u) v h = All-cons (Move n) x u (All-head (Move n) x (u ++ v) h) (moves_left n u v (All-tail (Move n) x (u ++ v) h))
 
 moves_right : (n : ℕ) (u v : List ℕ) → Moves n (u ++ v) → Moves n v
 moves_right n [] v h = h
-moves_right n (x ∷ u) v h = moves_right n u v h.1
+moves_right n (x ∷ u) v h = moves_right n u v (All-tail (Move n) x (u ++ v) h)
 
 -- what the test finds of u: which marks stand at its ends, and what lies between
 pub record Found (u : List ℕ) (starts : Bool) (rest : List ℕ) (ends : Bool) (inner : List ℕ) : Type 0 where
@@ -23,7 +24,7 @@ pub record Found (u : List ℕ) (starts : Bool) (rest : List ℕ) (ends : Bool) 
 module _ (n k : ℕ) (few : n ≤ 12) (order : 2 ≤ k) where
   -- no move is a mark
   no_start : (v w : List ℕ) → Moves n w → w ≡ start_mark ∷ v → ⊥
-  no_start v w moves e = let m = subst (Moves n) e moves in omega (arith, m.0)
+  no_start v w moves e = let m : Move n start_mark = All-head (Move n) start_mark v (subst (Moves n) e moves) in omega (arith, m)
 
   no_end : (v w : List ℕ) → Moves n w → w ≡ v ++ (end_mark ∷ []) → ⊥
   no_end v w moves e = omega (arith, (all_before_last (Move n) v end_mark (subst (Moves n) e moves)).1)
@@ -44,7 +45,7 @@ module _ (n k : ℕ) (few : n ≤ 12) (order : 2 ≤ k) where
 
   no_start_before_end : (v w : List ℕ) → Moves n w → w ++ (end_mark ∷ []) ≡ start_mark ∷ v → ⊥
   no_start_before_end v [] moves e = let mark : end_mark ≡ start_mark = cc in omega arith
-  no_start_before_end v (x ∷ w) moves e = let mark : x ≡ start_mark = cc in omega (arith, moves.0)
+  no_start_before_end v (x ∷ w) moves e = let mark : x ≡ start_mark = cc in let m : Move n x = All-head (Move n) x w moves in omega (arith, m)
 
   module _ (u rest inner : List ℕ) where
     abbrev Passes : Bool → Bool → Type 0

@@ -1,7 +1,7 @@
-use Rattle.std.proofs.Common.{◌≡◌, ◌+◌, ◌*◌, ◌<◌, get_or, take, All, sym, ap, ◌∙◌, subst, arith}
+use Rattle.std.proofs.Common.{◌+◌, ◌*◌, ◌<◌, All, sym, ap, ◌∙◌, subst, arith}
 use Rattle.std.proofs.lemmas.List.Elements.{All-get_or}
 use Rattle.std.proofs.lemmas.List.{take_all}
-use Rattle.terms.specs.Codes.{Item, base, digit, code}
+use Rattle.terms.specs.Codes.{Item, code}
 use Rattle.terms.proofs.Codes.{code_more}
 use Rattle.windows.proofs.Coding.{items_more, room_more, coded}
 use Rattle.windows.proofs.alphabet.Alphabet.code.Goals as goal

@@ -1,4 +1,4 @@
-use Rattle.std.proofs.Common.{◌≡◌, ◌-◌, ◌<◌, ◌≤◌, List, [], ◌∷◌, length, take, sym, ap, ◌∙◌, subst, arith}
+use Rattle.std.proofs.Common.{◌≡◌, ◌-◌, ◌<◌, ◌≤◌, [], ◌∷◌, length, take, sym, ap, ◌∙◌, subst, arith}
 use Rattle.terms.specs.Words.{marked, runs, windows}
 use Rattle.terms.proofs.Windows.{cuts_from_windows, members_from_windows, windows_long, windows_short}
 use Rattle.windows.specs.Values.{word_items, play_moves, cut_windows}

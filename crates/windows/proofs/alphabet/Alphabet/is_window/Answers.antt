@@ -1,4 +1,4 @@
-use Rattle.std.proofs.Common.{length, sym, ◌∙◌}
+use Rattle.std.proofs.Common.{sym}
 use Rattle.std.proofs.lemmas.Bool.{true≢false}
 use Rattle.windows.proofs.Tests.{Found, window_from_test, test_from_window}
 use Rattle.windows.proofs.alphabet.Alphabet.is_window.Goals as goal

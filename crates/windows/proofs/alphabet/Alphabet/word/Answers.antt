@@ -1,9 +1,9 @@
-use Rattle.std.proofs.Common.{◌≡◌, ◌-◌, ◌/◌, ◌%◌, ◌<◌, ◌≤◌, length, drop, sym, refl, ap, ◌∙◌, subst, arith}
+use Rattle.std.proofs.Common.{◌≡◌, ◌-◌, ◌%◌, ◌≤◌, length, drop, sym, ap, ◌∙◌, subst, arith}
 use native.Mathlib.Nat.{div-lt_self}
 use Rattle.std.proofs.lemmas.List.{take_all, length-drop}
 use Rattle.terms.specs.Codes.{Word, base, code}
 use Rattle.windows.specs.Values.{word_items}
-use Rattle.windows.proofs.Coding.{Sofar, sofar_more, nobody_zero, nobody_long, whole_word}
+use Rattle.windows.proofs.Coding.{sofar_more, nobody_zero, nobody_long, whole_word}
 use Rattle.windows.proofs.alphabet.Alphabet.word.Goals as goal
 use Rattle.windows.proofs.alphabet.Alphabet.word.Goals.{then-digit-eq0-via-then-digit-eq0, then-digit-eq0-via-else-digit-eq0+then-from-self}
 

@@ -1,10 +1,10 @@
-use Rattle.std.proofs.Common.{◌≡◌, ◌+◌, true, false, cond, map, length, take, count_by, sym, refl, ap, ◌∙◌, arith}
+use Rattle.std.proofs.Common.{◌≡◌, ◌+◌, cond, map, take, count_by, sym, ap, ◌∙◌, arith}
 use Rattle.std.specs.Str.{bytes_eq as same_text}
 use Rattle.std.proofs.lemmas.List.{take_all}
 use Rattle.windows.specs.Values.{word_items}
 use Rattle.windows.proofs.Steps.{count_more}
 use Rattle.windows.proofs.values.Cut.count.Goals as goal
-use Rattle.windows.proofs.values.Cut.count.Goals.{then_same, else_same}
+use Rattle.windows.proofs.values.Cut.count.Goals.{then-same, else-same}
 
 pub loop-window-preserved : goal.loop-window-preserved
 loop-window-preserved c =
@@ -13,11 +13,11 @@ loop-window-preserved c =
     let more = count_more c.windows-windows.result.now c.loop-window.window-index w (λ v. same_text v word) c.loop-window-test.true c.window-item.is in
     let test : c.same.result ≡ same_text (word_items w) word = c.same.ensures ∙ ap (λ v. same_text v word) c.items.ensures in
     elim c.if-same.branch [
-      | then_same t ↦ (
+      | then-same t ↦ (
         omega (arith, t.count-is, c.loop-window.invariant.0),
         t.count-is ∙ ap (λ n. n + 1) c.loop-window.invariant.1 ∙ ap (λ b. count_by (λ v. same_text v word) (map word_items (take c.loop-window.window-index c.windows-windows.result.now)) + cond b 1 0) (sym t.if-same.true ∙ test) ∙ sym more,
       )
-      | else_same t ↦ (
+      | else-same t ↦ (
         omega (arith, t.count-is, c.loop-window.invariant.0),
         t.count-is ∙ c.loop-window.invariant.1 ∙ omega arith ∙ ap (λ b. count_by (λ v. same_text v word) (map word_items (take c.loop-window.window-index c.windows-windows.result.now)) + cond b 1 0) (sym t.if-same.false ∙ test) ∙ sym more,
       )

@@ -1,4 +1,4 @@
-use Rattle.std.proofs.Common.{◌≡◌, ◌≤◌, length, ap, ◌∙◌, arith, length-append, length-set, rules}
+use Rattle.std.proofs.Common.{◌≡◌, length, ap, ◌∙◌, arith, length-append, length-set, rules}
 use Rattle.terms.specs.Words.{marked}
 use Rattle.windows.proofs.Steps.{marks_around}
 use Rattle.windows.proofs.values.Play.marked.Goals as goal
