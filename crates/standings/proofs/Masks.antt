@@ -1,6 +1,7 @@
 -- The split of a word by a mask: the step of the loop over its items, and what both parts have from the word.
 use Rattle.std.proofs.Common.{◌≡◌, ℕ, ◌+◌, ◌/◌, ◌%◌, ◌^◌, ◌<◌, ◌≤◌, true, false, eqb, List, [], ◌∷◌, ◌++◌, length, get_or, take, All, ◌∙◌, arith}
 use lib.Bits.{bit_and, and_mask}
+use Rattle.std.proofs.lemmas.List.Elements.{All-nil, All-cons, All-head, All-tail}
 use Rattle.std.proofs.lemmas.Bool.{cond-true, cond-false, cond_both, eq-eqb, ne_eqb}
 use Rattle.tree_laws.specs.Selections.{picked, left_out}
 use Rattle.tree_laws.proofs.Bits.{on}
@@ -33,12 +34,12 @@ module _ (m : ℕ) (u : List ℕ) (i : ℕ) (inside : i < length u) where
 -- each item of a part is one of the word
 module _ (P : ℕ → Type 0) where
   pub all_picked : (m : ℕ) (u : List ℕ) → All P u → All P (picked m u)
-  all_picked m [] all = tt
-  all_picked m (x ∷ u) all = let rest = all_picked (m / 2) u all.1 in cond_both (eqb (m % 2) 1) _ _ (All P) (λ e. (all.0, rest)) (λ e. rest)
+  all_picked m [] all = All-nil P
+  all_picked m (x ∷ u) all = let rest = all_picked (m / 2) u (All-tail P x u all) in cond_both (eqb (m % 2) 1) _ _ (All P) (λ e. All-cons P x _ (All-head P x u all) rest) (λ e. rest)
 
   pub all_left : (m : ℕ) (u : List ℕ) → All P u → All P (left_out m u)
-  all_left m [] all = tt
-  all_left m (x ∷ u) all = let rest = all_left (m / 2) u all.1 in cond_both (eqb (m % 2) 1) _ _ (All P) (λ e. rest) (λ e. (all.0, rest))
+  all_left m [] all = All-nil P
+  all_left m (x ∷ u) all = let rest = all_left (m / 2) u (All-tail P x u all) in cond_both (eqb (m % 2) 1) _ _ (All P) (λ e. rest) (λ e. All-cons P x _ (All-head P x u all) rest)
 
 pub length_picked : (m : ℕ) (u : List ℕ) → length (picked m u) ≤ length u
 length_picked m [] = omega arith

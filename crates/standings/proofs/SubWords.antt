@@ -1,6 +1,6 @@
 -- The parts of a word of moves that its standing is worked out from are words too.
 use Rattle.std.proofs.Common.{ℕ, ◌-◌, ◌≤◌, List, [], length, take, drop, inl, arith}
-use Rattle.std.proofs.lemmas.List.Elements.{All-take, All-drop, All-weaker}
+use Rattle.std.proofs.lemmas.List.Elements.{All-drop, All-nil, All-take, All-weaker}
 use Rattle.std.proofs.lemmas.List.{length-take, length-drop}
 use Rattle.terms.specs.Codes.{Item, Word}
 use Rattle.terms.specs.Words.{Move, Moves}
@@ -16,7 +16,7 @@ module _ {S : Type 0} {n k : ℕ} {u : List ℕ} (ready : Ready S n k u) where
   whole_word = part u ready.moves (omega arith)
 
   pub empty_word : Word n k []
-  empty_word = part [] tt (omega arith)
+  empty_word = part [] (All-nil (Move n)) (omega arith)
 
   pub front_word : (j : ℕ) → Word n k (take j u)
   front_word j = part (take j u) (All-take (Move n) j u ready.moves) (omega (arith, length-take j u))
