@@ -1,7 +1,7 @@
 -- What one write of a row makes of a rack, and how steps follow each other.
 use Rattle.std.proofs.Common.{◌≡◌, ℕ, ◌+◌, ◌-◌, ◌*◌, ◌%◌, ◌^◌, ◌<◌, ◌≤◌, true, false, ◌⊎◌, List, [], ◌∷◌, ◌++◌, length, get_or, is_ok, Ok, Err, Result, sym, refl, ap, ◌∙◌, subst, inl, inr, ⊎_elim, add_assoc, mul-le-mul_right, add-mul, arith, MatchResult}
 use lib.Arith.{digits_mod}
-use Rattle.std.proofs.lemmas.List.Elements.{All-push}
+use Rattle.std.proofs.lemmas.List.Elements.{All-nil, All-push}
 use Rattle.std.proofs.lemmas.List.{length_push}
 use Rattle.terms.proofs.Codes.{code_apart}
 use Rattle.std.proofs.lemmas.Bool.{cases_lt, cases_eq, true≢false}
@@ -145,7 +145,7 @@ module _ (n k : ℕ) (few : n ≤ 12) (t : List Node) (wf : WellFormed n t) wher
   }
 
   pub next_empty : (m : ℕ) (v : View) → Finished n k t m v → NextWord n k t m [] v
-  next_empty m v h = record { moves = tt; short = omega arith; underway = record { rows = progress_none n k few t m v.number h.rows; reaches = h.reaches } }
+  next_empty m v h = record { moves = All-nil (Move n); short = omega arith; underway = record { rows = progress_none n k few t m v.number h.rows; reaches = h.reaches } }
 
   -- the walk over the rows of the node after the first m, which begin at start
   module _ (m : ℕ) (inside : m + 1 ≤ length t) (start limit from : ℕ) (start_is : start ≡ (m + 1) * base n ^ k) (limit_is : limit ≡ base n ^ k) (v : View) (h : Underway n k t m (from * base n + 1) v) where

@@ -1,6 +1,6 @@
-use Rattle.std.proofs.Common.{◌≡◌, map, length, sym, refl, ap, ◌∙◌, subst, inr, arith}
+use Rattle.std.proofs.Common.{◌≡◌, map, length, refl, ap, ◌∙◌, subst, inr, arith}
 use Rattle.std.proofs.lemmas.List.{take_all}
-use Rattle.trees.specs.Tables.{AllGood, Good, WrongField, node_of}
+use Rattle.trees.specs.Tables.{node_of}
 use Rattle.trees.specs.declared.raw.RawNode.{RawNode}
 use Rattle.trees.proofs.Tables.{Sofar, sofar_more, first_wrong_node, all_checked}
 use Rattle.trees.proofs.tree.Tree.new.Goals as goal
@@ -30,7 +30,8 @@ whole : (c : After-loop-i) → Sofar c.args.alphabet.moves c.args.table.now (len
 whole c = let end : c.loop-i.i ≡ length c.args.table.now = omega arith in subst (λ i. Sofar c.args.alphabet.moves c.args.table.now i c.loop-i.nodes) end c.loop-i.invariant
 
 pub invariant_of-result : goal.invariant_of-result
-invariant_of-result c = (c.if-len-lt1.false, (c.if-len-gt32.false, (c.loop-i.invariant.long, (all_checked _ _ _ (whole c), tt))))
+invariant_of-result c =
+    record { some = c.if-len-lt1.false; few = c.if-len-gt32.false; long = c.loop-i.invariant.long; proper = all_checked _ _ _ (whole c) }
 
 pub returns : goal.returns
 returns c =

@@ -6,6 +6,8 @@ use Rattle.trees.specs.Trees.{For, tree_nodes}
 use Rattle.trees.proofs.Planting.{next_same, pass_step}
 use Rattle.trees.proofs.Steps.{no_step, question_step}
 use Rattle.trees.proofs.Trees.{tree_formed, tree_long}
+use Rattle.terms.specs.Words.{Move}
+use Rattle.std.proofs.lemmas.List.Elements.{All-tail}
 use Rattle.terms.specs.Codes.{code}
 use Rattle.trees.proofs.tree.Tree.place.Goals as goal
 
@@ -26,7 +28,7 @@ returns-then-row-eq0 g c =
     no_step _ _ _ _ _ _ tt c.row.ensures.kept
     (λ sound next.
     let whole : NextWord n k t m (first ∷ tail) before = subst (λ w. NextWord n k t m w before) is next in
-    let gone = sym ((c.row.ensures.answer sound).number (word_from_moves n k a.few tail whole.moves.1 (omega (arith, whole.short)))) ∙ c.if-row-eq0.true in
+    let gone = sym ((c.row.ensures.answer sound).number (word_from_moves n k a.few tail (All-tail (Move n) first tail whole.moves) (omega (arith, whole.short)))) ∙ c.if-row-eq0.true in
     subst (λ w. Underway n k t m (code n w + 1) after) (sym is) (pass_step n k a.few t (tree_formed tree) m inside first tail before after whole gone (c.row.ensures.kept.unaltered sound)))
 
 pub returns : goal.returns

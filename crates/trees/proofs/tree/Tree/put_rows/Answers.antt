@@ -5,9 +5,25 @@ use Rattle.standings.specs.Questions.{Kept}
 use Rattle.trees.specs.Planting.{Step, Finished, Complete}
 use Rattle.trees.specs.Trees.{tree_nodes}
 use Rattle.trees.proofs.Planting.{finished_same, complete_same, count_windows}
-use Rattle.trees.proofs.Steps.{no_step, question_step, step_step}
+use Rattle.trees.proofs.Steps.{no_step, question_step, step_step, step_step_refused}
 use Rattle.trees.proofs.Trees.{tree_formed, tree_long}
 use Rattle.trees.proofs.tree.Tree.put_rows.Goals as goal
+
+pub returns-in_err-put_windows-clause-step : goal.returns-in_err-put_windows-clause-step
+returns-in_err-put_windows-clause-step g c =
+    let tree = c.args.self.now in
+    let a = tree.alphabet in
+    let n = a.moves in
+    let k = a.order in
+    let t = tree_nodes tree in
+    let view = g.R.Rack.view in
+    let sound = g.R.Rack.sound in
+    let unused = g.R.Rack.unused in
+    let grown : Step view sound unused c.args.rack.now c.write_nodes.new.rack (MoreRows n k t) (Finished n k t 0) (Finished n k t tree.len) (Ok (tt {0})) = subst (Step _ _ _ _ _ _ _ _) c.in_ok-write_nodes.was c.write_nodes.ensures in
+    let first : Step view sound unused c.args.rack.now c.write_nodes.new.rack (MoreRows n k t) (Finished n k t 0) (Finished n k t (length t)) (Ok (tt {0})) = subst (λ m. Step view sound unused c.args.rack.now c.write_nodes.new.rack (MoreRows n k t) (Finished n k t 0) (Finished n k t m) (Ok (tt {0}))) (sym (tree_long tree)) grown in
+    let asked : Kept view sound unused c.write_nodes.new.rack c.held-nodes.new.self = record { unaltered = c.held-nodes.ensures.unaltered; stays_sound = c.held-nodes.ensures.stays_sound; memory = c.held-nodes.ensures.memory } in
+    let second = question_step view sound unused (MoreRows n k t) (Finished n k t (length t)) (Finished n k t (length t)) (Complete n k t) c.put_windows.result asked (λ s h. finished_same n k a.few t (tree_formed tree) (length t) (view c.write_nodes.new.rack) (view c.held-nodes.new.self) (asked.unaltered s) h) c.put_windows.ensures in
+    step_step_refused view sound unused (MoreRows n k t) (Finished n k t 0) (Finished n k t (length t)) (Complete n k t) (Complete n k t) (tt {0}) c.put_windows.result _ c.from_residual-in_err-put_windows.result c.in_err-put_windows.was c.from_residual-in_err-put_windows.ensures.0 first second
 
 pub returns : goal.returns
 returns g c =

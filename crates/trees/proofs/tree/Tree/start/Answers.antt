@@ -1,4 +1,4 @@
-use Rattle.std.proofs.Common.{◌+◌, ◌*◌, ◌≤◌, ap, ◌∙◌, mul-le-mul, arith}
+use Rattle.std.proofs.Common.{◌+◌, ◌*◌, ◌≤◌, ap, mul-le-mul, arith}
 use Rattle.trees.proofs.tree.Tree.start.Goals as goal
 use Rattle.trees.proofs.tree.Tree.start.Goals.{After-code_limit}
 

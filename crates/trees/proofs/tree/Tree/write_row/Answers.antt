@@ -1,10 +1,10 @@
-use Rattle.std.proofs.Common.{◌≡◌, ◌+◌, ◌*◌, ◌^◌, ◌<◌, ◌≤◌, length, get_or, sym, refl, ap, ◌∙◌, subst, arith}
+use Rattle.std.proofs.Common.{◌≡◌, ◌+◌, ◌≤◌, length, sym, ◌∙◌, subst, arith}
 use Rattle.std.proofs.lemmas.Result.{MatchResult-weaker}
-use Rattle.terms.specs.Codes.{base, code}
+use Rattle.terms.specs.Codes.{code}
 use Rattle.tree_laws.specs.Facts.{Standing}
 use Rattle.row_laws.specs.Rows.{MoreRows, row_key}
 use Rattle.row_laws.proofs.Keys.{word_from_moves}
-use Rattle.trees.specs.Planting.{SameSize, NextWord}
+use Rattle.trees.specs.Planting.{NextWord}
 use Rattle.trees.specs.Trees.{tree_nodes}
 use Rattle.trees.proofs.Planting.{underway_same, stands_by_rows, write_step, write_size}
 use Rattle.trees.proofs.Trees.{tree_formed, tree_long, tree_node}
