@@ -1,4 +1,4 @@
--- Computed tests tell that a table is well_formed, that a list has exactly its playable windows, and that one is not playable.
+-- Computed tests tell that a table is well-formed, that a list has exactly its playable windows, and that one is not playable.
 use Rattle.std.proofs.Common.{◌≡◌, ℕ, zero, suc, ◌+◌, ◌-◌, ◌^◌, ◌<◌, ◌≤◌, Bool, true, false, cond, not, ◌&&◌, ◌||◌, eqb, ltb, leb, List, [], ◌∷◌, length, get_or, Decides, All, Contains, filter, sym, refl, subst, arith}
 use Rattle.std.specs.Str.{bytes_eq}
 use Rattle.std.proofs.lemmas.List.Elements.{All-cons, All-contains, All-head, All-nil, All-tail, Decides-contains}
@@ -176,7 +176,7 @@ well_formed n t e (suc i) low high = (decides_proper n (suc i) (get_or t (suc i 
 
 -- ---- the tests of a tree
 
--- n and k are in range, and t is well_formed and has a root
+-- n and k are in range, and t is well-formed and has a root
 abbrev pub in_range : ℕ → ℕ → List Node → Bool
 in_range n k t = leb n 12 && (leb 2 k && (leb 1 (length t) && all_proper n t))
 

@@ -94,7 +94,7 @@ module _ (n k : ℕ) (t : List Node) (few : n ≤ 12) (wide : 2 ≤ k) (wf : Wel
 
     -- a tree whose rows have room has no more rows than the room
     pub rows_fit : {room : ℕ} (reach : ℕ) → held_count f reach ≤ room → key_limit n k t ≤ reach → MoreRows n k t room → ⊥
-    rows_fit reach fits wide-reach m =
+    rows_fit reach fits wide_reach m =
         omega (
           arith,
           m.more,

@@ -20,7 +20,7 @@ pub rows_same : (n k : ℕ) (t : List Node) {f g : ℕ → ℕ} → ((key : ℕ)
 rows_same n k t same h = record {
   standings = λ v u low high moves short. subst (Standing t v u) (sym (same (row_key n k v u))) (h.standings v u low high moves short);
   played = λ u is plays. same (code n u) ∙ h.played u is plays;
-  unplayed = λ u is not-played. same (code n u) ∙ h.unplayed u is not-played;
+  unplayed = λ u is not_played. same (code n u) ∙ h.unplayed u is not_played;
   only = λ key held. h.only key (subst (λ x. 0 < x) (same key) held);
 }
 

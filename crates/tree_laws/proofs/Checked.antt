@@ -1,4 +1,4 @@
--- The tests of a table tell that it is well_formed.
+-- The tests of a table tell that it is well-formed.
 use Rattle.std.proofs.Common.{ℕ, ◌-◌, ◌≤◌, leb, List, get_or, Decides, refl}
 use Rattle.std.proofs.lemmas.Bool.{leb-true, le-leb}
 use Rattle.std.proofs.lemmas.Bool.Decides.{Decides-ltb, Decides-and}

@@ -89,7 +89,7 @@ from_part false true v u h = let (q, o, r) = begun h in (u ++ q, r, (q, refl))
 from_part true false v u h = let (p, o, r) = ended h in (p ++ u, r, (p, refl))
 from_part false false v u h = whole_of h
 
--- ---- well_formed tables
+-- ---- well-formed tables
 
 interleaved_moves : (n : ℕ) {x y w : List ℕ} → Interleaving x y w → Moves n x → Moves n y → Moves n w
 interleaved_moves n none p q = All-nil (Move n)

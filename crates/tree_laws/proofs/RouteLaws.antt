@@ -1,4 +1,4 @@
--- The laws of routes at the nodes of a well_formed table.
+-- The laws of routes at the nodes of a well-formed table.
 use Rattle.std.proofs.Common.{◌≡◌, ℕ, Bool, true, false, ◌⊎◌, ◌↔◌, List, sym, refl, subst, inl, inr, ⊎_elim, arith}
 use mathlib.Core.Bool.{false≢true}
 use Rattle.tree_laws.specs.declared.Node.{Node}

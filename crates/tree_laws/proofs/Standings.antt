@@ -174,7 +174,7 @@ module _ {A B : Language} {Ok : List ℕ → Type 0} (closed : Closed Ok) (sa sb
 
   pub sequence_right : Some A → Some B → Right (Then A B) u (sequence_standing sa sb u)
   unfolding Cases At
-  sequence_right some-a some-b = record {
+  sequence_right some_a some_b = record {
     small = or_lt 4 _ _ (or_lt 4 _ _ (and_small (sa u) 3 (omega arith)) (and_small (sb u) 5 (omega arith))) (ors_below (cut_bits sa sb u) 4 (length u + 1) (λ j _. and_small (front_bits (sa (take j u))) (back_bits (sb (drop j u))) (back_small (sb (drop j u)))));
     tells = λ f b.
         let i = place f b in
@@ -183,7 +183,7 @@ module _ {A B : Language} {Ok : List ℕ → Type 0} (closed : Closed Ok) (sa sb
         let third = on_ors (cut_bits sa sb u) i (At f b) (length u + 1) (λ j _. cut_tells f b j) in
         let sides = Decides-at _ _ (on_or (bit_and (sa u) 3) (bit_and (sb u) 5) i) (Decides-or _ _ first second) in
         Decides-at _ _ (on_or (bit_or (bit_and (sa u) 3) (bit_and (sb u) 5)) (ors (cut_bits sa sb u) (length u + 1)) i)
-        (Decides-like _ (λ h. sequence_from some-a some-b f b u (cases_joined f b h)) (λ h. joined_cases f b (sequence_to f b u h)) (Decides-or _ _ sides third));
+        (Decides-like _ (λ h. sequence_from some_a some_b f b u (cases_joined f b h)) (λ h. joined_cases f b (sequence_to f b u h)) (Decides-or _ _ sides third));
   }
 
   -- ---- interleaving

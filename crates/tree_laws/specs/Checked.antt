@@ -1,4 +1,4 @@
--- A well_formed table by tests: an equation for each node, for where a type must have at most one proof.
+-- A well-formed table by tests: an equation for each node, for where a type must have at most one proof.
 use Rattle.std.specs.Prelude.{◌≡◌, ℕ, ◌-◌, ◌≤◌, Bool, true, ◌&&◌, List, length, nat_le, nat_lt, slice_index_or}
 use Rattle.tree_laws.specs.declared.Node.{Node}
 use Rattle.tree_laws.specs.declared.Node.TheVariants.{Skip, Move as Single, Choice, Sequence, Loop, Parallel}

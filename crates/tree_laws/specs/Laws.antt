@@ -44,7 +44,7 @@ pub record ParallelAt (t : List Node) (v a b : ℕ) (u : List ℕ) : Type 0 wher
   pub ends : SomeEnds t v u ↔ Selection u (SomeEnds t a) (SomeEnds t b)
   pub whole : Route t v u ↔ Selection u (Route t a) (Route t b)
 
--- a law of each node of one kind in each well_formed table, at each word
+-- a law of each node of one kind in each well-formed table, at each word
 abbrev pub Always : (ℕ → ℕ → Node) → (List Node → ℕ → ℕ → ℕ → List ℕ → Type 0) → Type 0
 Always kind Law = (n : ℕ) (t : List Node) → WellFormed n t → (v a b : ℕ) → IsNode t v (kind a b) → (u : List ℕ) → Law t v a b u
 

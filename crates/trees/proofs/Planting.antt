@@ -105,8 +105,8 @@ module _ (n k : ℕ) (few : n ≤ 12) (t : List Node) (wf : WellFormed n t) wher
 
   pub start_trying : (m c : ℕ) (w : List ℕ) (v : View) → Word n k w → code n w ≡ c → NextParent n k t m c v → Trying n k t m w c 1 v
   start_trying m c w v word is next =
-      let (p, moves, short, is-p) = parent_word m c v next in
-      record { moves = subst (Moves n) (code_apart n few p w (items_from_moves n p moves) word.items (is-p ∙ sym is)) moves; underway = next.underway }
+      let (p, moves, short, is_p) = parent_word m c v next in
+      record { moves = subst (Moves n) (code_apart n few p w (items_from_moves n p moves) word.items (is_p ∙ sym is)) moves; underway = next.underway }
 
   module _ (m c : ℕ) (p : List ℕ) (is : code n p ≡ c) (v : View) where
     -- one move more behind the word p

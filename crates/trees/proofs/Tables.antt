@@ -22,7 +22,7 @@ good_proper : (n v : ℕ) (x : RawNode) → Good n v x → Proper n v (node_of x
 good_proper n v x good =
     let k = x.kind in
     cond_both (eqb k 0) Skip _ (Proper n v) (λ _. tt)
-    (λ no-skip.
+    (λ no_skip.
     cond_both (eqb k 1) (Single x.a) _ (Proper n v) (λ e. good.first.single (eqb-true k 1 e))
     (λ no_move.
     let two : 2 ≤ k = grind (arith, nat_tests) in

@@ -107,8 +107,8 @@ module _ (n k : ℕ) (t : List Node) (few : n ≤ 12) (wide : 2 ≤ k) (wf : Wel
   -- the number read at the root begins the turns of a word
   pub first_window : (c : ℕ) (w : List ℕ) (s : ℕ) (before after : View) → Word n k w → code n w ≡ c → s ≡ before.number (length t * base n ^ k + c) → Unaltered before after → NextRootWord n k t c before → NextWindow n k t w s 0 after
   first_window c w s before after word is read same next =
-      let (p, moves-p, short-p, is-p) = root_word c before next in
-      let moves : Moves n w = subst (Moves n) (code_apart n few p w (items_from_moves n p moves-p) word.items (is-p ∙ sym is)) moves-p in
+      let (p, moves_p, short_p, is_p) = root_word c before next in
+      let moves : Moves n w = subst (Moves n) (code_apart n few p w (items_from_moves n p moves_p) word.items (is_p ∙ sym is)) moves_p in
       let stands : Standing t (length t) w (before.number (row_key n k (length t) w)) = next.windows.rows.standings (length t) w some (omega arith) moves word.short in
       let here : 4 * c ≡ turn n 0 w = omega (arith, is) in
       record {

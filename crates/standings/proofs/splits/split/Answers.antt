@@ -12,17 +12,17 @@ loop-i-preserved c =
     let u = c.args.word.now in
     let i = c.loop-i.i in
     let inv = c.loop-i.invariant in
-    let in-word = c.loop-i-test.true in
+    let in_word = c.loop-i-test.true in
     elim c.if-mask-i-eq1.branch [
       | then-mask-i-eq1 w ↦ (
-        ap part_items w.inside-is ∙ w.push.ensures.items ∙ ap (λ l. l ++ (get_or u i 0 ∷ [])) inv.0 ∙ sym (picked_set m u i in-word w.if-mask-i-eq1.true),
-        ap part_items w.outside-is ∙ inv.1 ∙ sym (left_set m u i in-word w.if-mask-i-eq1.true),
+        ap part_items w.inside-is ∙ w.push.ensures.items ∙ ap (λ l. l ++ (get_or u i 0 ∷ [])) inv.0 ∙ sym (picked_set m u i in_word w.if-mask-i-eq1.true),
+        ap part_items w.outside-is ∙ inv.1 ∙ sym (left_set m u i in_word w.if-mask-i-eq1.true),
         omega (arith, ap (λ p. p.len) w.inside-is, w.push.ensures.len, inv.2),
         omega (arith, ap (λ p. p.len) w.outside-is, inv.3),
       )
       | else-mask-i-eq1 w ↦ (
-        ap part_items w.inside-is ∙ inv.0 ∙ sym (picked_unset m u i in-word w.if-mask-i-eq1.false),
-        ap part_items w.outside-is ∙ w.push-else-mask-i-eq1.ensures.items ∙ ap (λ l. l ++ (get_or u i 0 ∷ [])) inv.1 ∙ sym (left_unset m u i in-word w.if-mask-i-eq1.false),
+        ap part_items w.inside-is ∙ inv.0 ∙ sym (picked_unset m u i in_word w.if-mask-i-eq1.false),
+        ap part_items w.outside-is ∙ w.push-else-mask-i-eq1.ensures.items ∙ ap (λ l. l ++ (get_or u i 0 ∷ [])) inv.1 ∙ sym (left_unset m u i in_word w.if-mask-i-eq1.false),
         omega (arith, ap (λ p. p.len) w.inside-is, inv.2),
         omega (arith, ap (λ p. p.len) w.outside-is, w.push-else-mask-i-eq1.ensures.len, inv.3),
       )
