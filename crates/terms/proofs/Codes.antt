@@ -1,13 +1,12 @@
 -- Codes lie below the base's power, tell words apart, rise with the length, and give their words back.
-use Rattle.std.proofs.Common.{◌≡◌, ℕ, zero, suc, ◌+◌, ◌-◌, ◌*◌, ◌/◌, ◌%◌, ◌^◌, ◌<◌, ◌≤◌, Bool, true, false, cond, eqb, ◌⊎◌, List, [], ◌∷◌, ◌++◌, map, length, get_or, take, All, sym, refl, ap, ◌∙◌, subst, inl, inr, ⊎_elim, le_trans, mul-le-mul_right, add-mul, arith}
+use Rattle.std.proofs.Common.{◌≡◌, ℕ, ◌+◌, ◌*◌, ◌/◌, ◌%◌, ◌^◌, ◌<◌, ◌≤◌, List, [], ◌∷◌, ◌++◌, map, length, get_or, take, All, sym, refl, ap, ◌∙◌, subst, inl, inr, ⊎_elim, le_trans, mul-le-mul_right, add-mul, arith}
 use native.Mathlib.Nat.{pow-le-pow_left, pow-le-pow_right}
 use lib.Arith.{digits_div, digits_mod}
-use Rattle.std.specs.Int.Digits.{number_from_digits, digits_of, AllBelowBase}
-use Rattle.std.proofs.lemmas.Int.Digits.{number_push, number_lt, number_digits_of, digits_of_step}
-use Rattle.std.proofs.lemmas.List.Elements.{All-append, All-head, All-map, All-tail, All-weaker, recursion_from_All}
+use Rattle.std.specs.Int.Digits.{number_from_digits, digits_of}
+use Rattle.std.proofs.lemmas.Int.Digits.{number_push, number_lt, digits_of_step}
+use Rattle.std.proofs.lemmas.List.Elements.{All-head, All-map, All-tail, All-weaker, recursion_from_All}
 use Rattle.std.proofs.lemmas.List.{length-map, length_push, map_push, take_more}
 use Rattle.std.proofs.lemmas.Bool.{eq-eqb, ne_eqb, cases_eq}
-use Rattle.std.proofs.lemmas.Bool.Decides.{nat_tests}
 use Rattle.terms.proofs.Ends.{from_the_end, by_ends, all_before_last}
 use Rattle.terms.specs.Codes.{Item, Word, base, digit, item, code}
 use Rattle.terms.specs.Words.{Move, start_mark, end_mark}

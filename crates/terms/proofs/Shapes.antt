@@ -1,8 +1,8 @@
 -- Which shapes the windows of a marked list have, and that a list of bytes is a window exactly when it has one of them.
-use Rattle.std.proofs.Common.{◌≡◌, ℕ, zero, suc, ◌+◌, ◌-◌, ◌<◌, ◌≤◌, ◌⊎◌, List, [], ◌∷◌, ◌++◌, length, sym, refl, ap, ◌∙◌, subst, inl, inr, ⊎_elim, append_assoc, append-nil, arith, length-append}
+use Rattle.std.proofs.Common.{◌≡◌, ℕ, suc, ◌+◌, ◌<◌, ◌≤◌, ◌⊎◌, List, [], ◌∷◌, ◌++◌, length, sym, refl, ap, ◌∙◌, inl, inr, ⊎_elim, append_assoc, append-nil, arith, length-append}
 use Rattle.std.proofs.lemmas.List.{same_from_push, length_push}
 use Rattle.terms.proofs.Ends.{from_the_end}
-use Rattle.terms.specs.Words.{Move, Moves, start_mark, end_mark, marked, Contains, Begins, Ends, WindowOf, LongWindow, ShortWindow, IsWindow}
+use Rattle.terms.specs.Words.{Moves, start_mark, end_mark, marked, Contains, Begins, Ends, WindowOf, IsWindow}
 
 pub length_marked : (w : List ℕ) → length (marked w) ≡ length w + 2
 length_marked w = omega (arith, length-append w (end_mark ∷ []))

@@ -1,10 +1,9 @@
 -- The list of windows is what the law of cutting says, and has exactly the windows of the relation.
-use Rattle.std.proofs.Common.{◌≡◌, ℕ, zero, suc, ◌+◌, ◌-◌, ◌<◌, ◌≤◌, Bool, true, false, cond, leb, ◌⊎◌, List, [], ◌∷◌, ◌++◌, map, length, get_or, take, drop, Contains as Has, sym, refl, ap, ◌∙◌, subst, inl, inr, ⊎_elim, append_assoc, arith, length-append, length-drop, take-append-drop, length-take}
-use Rattle.std.specs.List.{range_with_len}
+use Rattle.std.proofs.Common.{◌≡◌, ℕ, ◌+◌, ◌-◌, ◌<◌, ◌≤◌, List, [], ◌∷◌, ◌++◌, length, get_or, take, drop, Contains as Has, sym, refl, ap, ◌∙◌, subst, inl, inr, ⊎_elim, arith, length-append, length-drop, take-append-drop}
 use Rattle.std.proofs.lemmas.List.FromFn.{length-map-range_with_len, get_or-map-range_with_len}
 use Rattle.std.proofs.lemmas.List.{same_lists, length-take-le, take_at, drop_at, get_or_default}
-use Rattle.std.proofs.lemmas.Bool.{leb-true, leb-false, le-leb, lt-leb, cases_lt}
-use Rattle.terms.specs.Words.{RunAt, Cuts, run, runs, windows, WindowOf, Contains}
+use Rattle.std.proofs.lemmas.Bool.{le-leb, lt-leb, cases_lt}
+use Rattle.terms.specs.Words.{RunAt, Cuts, run, runs, windows, WindowOf}
 
 pub windows_short : (k : ℕ) (w : List ℕ) → length w ≤ k → windows k w ≡ w ∷ []
 windows_short k w h = rw (le-leb (length w) k h)

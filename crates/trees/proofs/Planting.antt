@@ -1,10 +1,10 @@
 -- What one write of a row makes of a rack, and how steps follow each other.
-use Rattle.std.proofs.Common.{◌≡◌, ℕ, ◌+◌, ◌-◌, ◌*◌, ◌%◌, ◌^◌, ◌<◌, ◌≤◌, true, false, ◌⊎◌, List, [], ◌∷◌, ◌++◌, length, get_or, is_ok, Ok, Err, Result, sym, refl, ap, ◌∙◌, subst, inl, inr, ⊎_elim, add_assoc, mul-le-mul_right, add-mul, arith, MatchResult}
+use Rattle.std.proofs.Common.{◌≡◌, ℕ, ◌+◌, ◌-◌, ◌*◌, ◌%◌, ◌^◌, ◌<◌, ◌≤◌, true, List, [], ◌∷◌, ◌++◌, length, is_ok, Ok, Err, Result, sym, refl, ap, ◌∙◌, subst, inl, ⊎_elim, add_assoc, mul-le-mul_right, add-mul, arith, MatchResult}
 use lib.Arith.{digits_mod}
 use Rattle.std.proofs.lemmas.List.Elements.{All-nil, All-push}
 use Rattle.std.proofs.lemmas.List.{length_push}
 use Rattle.terms.proofs.Codes.{code_apart}
-use Rattle.std.proofs.lemmas.Bool.{cases_lt, cases_eq, true≢false}
+use Rattle.std.proofs.lemmas.Bool.{cases_lt, true≢false}
 use Rattle.terms.specs.Codes.{Word, base, code}
 use Rattle.terms.specs.Words.{Move, Moves}
 use Rattle.terms.specs.declared.Refusal.{Refusal}
@@ -16,8 +16,8 @@ use Rattle.tree_laws.specs.declared.Node.TheVariants.{Skip, Move as Single, Choi
 use Rattle.tree_laws.proofs.Computed.{computed_laws_lem}
 use Rattle.racks.specs.Views.{View, Emptied, LacksRoom, NoneFrom, Smallest, Unaltered, Written, held_count, held_in, written}
 use Rattle.standings.specs.Rows.{rows_of, first_child, second_child, standing_by}
-use Rattle.row_laws.specs.Progress.{InProgress, Standings, Upto}
-use Rattle.row_laws.specs.Rows.{MoreRows, HasRow, NodeRow, PlayableCount, row_key, key_limit}
+use Rattle.row_laws.specs.Progress.{InProgress, Standings}
+use Rattle.row_laws.specs.Rows.{MoreRows, NodeRow, PlayableCount, row_key, key_limit}
 use Rattle.row_laws.proofs.Counted.{more_rows, count_playable}
 use Rattle.row_laws.proofs.Increase.{count_increase, rows_same}
 use Rattle.row_laws.proofs.Progress.{upto_none, upto_same, progress_none, progress_ends, progress_exhausted, progress_skip, progress_same, progress_write, progress_pass, progress_rows, progress_full, progress_tried, contained_from_held, stands_by_tail}

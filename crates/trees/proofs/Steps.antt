@@ -1,9 +1,9 @@
 -- Steps on a rack, one after the other.
-use Rattle.std.proofs.Common.{◌≡◌, ℕ, true, is_err, Ok, Err, Result, sym, refl, ◌∙◌, subst, MatchResult}
+use Rattle.std.proofs.Common.{◌≡◌, ℕ, true, is_err, Ok, Err, Result, sym, refl, ◌∙◌, subst}
 use Rattle.std.proofs.lemmas.Result.{MatchResult-weaker}
 use Rattle.std.proofs.lemmas.Bool.{true≢false}
 use Rattle.terms.specs.declared.Refusal.{Refusal}
-use Rattle.racks.specs.Views.{View, Unaltered}
+use Rattle.racks.specs.Views.{View}
 use Rattle.standings.specs.Questions.{Kept}
 use Rattle.trees.specs.Planting.{SameSize, Step}
 

@@ -1,5 +1,5 @@
 -- What putting a tree's rows into a rack answers, and what the rack then holds.
-use Rattle.std.specs.Prelude.{◌≡◌, ℕ, ◌<◌, ◌≤◌, ◌⊎◌, List, [], Result, MatchResult}
+use Rattle.std.specs.Prelude.{ℕ, ◌<◌, ◌≤◌, ◌⊎◌, List, [], Result, MatchResult}
 use Rattle.terms.specs.Refusals.{Says}
 use Rattle.terms.specs.declared.Refusal.{Refusal}
 use Rattle.tree_laws.specs.declared.Node.{Node}

@@ -1,7 +1,6 @@
-use Rattle.std.proofs.Common.{◌≡◌, ℕ, ◌+◌, ◌*◌, ◌<◌, ◌≤◌, List, [], ◌∷◌, ◌++◌, length, Ok, Err, sym, refl, ap, ◌∙◌, subst, arith}
+use Rattle.std.proofs.Common.{◌≡◌, ◌+◌, ◌*◌, ◌<◌, ◌≤◌, [], ◌∷◌, ◌++◌, length, Ok, sym, ap, ◌∙◌, subst, arith}
 use Rattle.terms.specs.Codes.{base, code}
 use Rattle.terms.specs.Words.{Move}
-use Rattle.racks.specs.Views.{View}
 use Rattle.row_laws.specs.Rows.{MoreRows}
 use Rattle.row_laws.proofs.Keys.{word_from_moves}
 use Rattle.windows.specs.Values.{word_items}

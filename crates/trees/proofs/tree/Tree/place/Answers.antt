@@ -1,8 +1,7 @@
-use Rattle.std.proofs.Common.{◌≡◌, ◌+◌, ◌≤◌, List, ◌∷◌, length, sym, refl, ap, ◌∙◌, subst, arith}
-use Rattle.racks.specs.Views.{View}
+use Rattle.std.proofs.Common.{◌≡◌, ◌+◌, ◌≤◌, ◌∷◌, length, sym, ◌∙◌, subst, arith}
 use Rattle.row_laws.proofs.Keys.{word_from_moves}
 use Rattle.trees.specs.Planting.{NextWord, Underway}
-use Rattle.trees.specs.Trees.{For, tree_nodes}
+use Rattle.trees.specs.Trees.{tree_nodes}
 use Rattle.trees.proofs.Planting.{next_same, pass_step}
 use Rattle.trees.proofs.Steps.{no_step, question_step}
 use Rattle.trees.proofs.Trees.{tree_formed, tree_long}

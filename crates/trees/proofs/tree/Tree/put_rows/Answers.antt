@@ -1,5 +1,5 @@
-use Rattle.std.proofs.Common.{◌≡◌, ℕ, ◌-◌, length, Ok, sym, refl, ap, ◌∙◌, subst}
-use Rattle.racks.specs.Views.{View, held_in}
+use Rattle.std.proofs.Common.{◌≡◌, ◌-◌, length, Ok, sym, ◌∙◌, subst}
+use Rattle.racks.specs.Views.{held_in}
 use Rattle.row_laws.specs.Rows.{MoreRows, PlayableCount}
 use Rattle.standings.specs.Questions.{Kept}
 use Rattle.trees.specs.Planting.{Step, Finished, Complete}

@@ -1,6 +1,6 @@
-use Rattle.std.proofs.Common.{◌≡◌, ℕ, ◌+◌, ◌-◌, ◌*◌, ◌^◌, ◌<◌, ◌≤◌, List, length, Ok, sym, refl, ap, ◌∙◌, subst, mul-le-mul, arith}
+use Rattle.std.proofs.Common.{◌≡◌, ◌+◌, ◌-◌, ◌*◌, ◌≤◌, length, Ok, ap, subst, mul-le-mul, arith}
 use Rattle.terms.specs.Codes.{base}
-use Rattle.racks.specs.Views.{View, Smallest}
+use Rattle.racks.specs.Views.{Smallest}
 use Rattle.row_laws.specs.Rows.{MoreRows}
 use Rattle.standings.specs.Questions.{Kept}
 use Rattle.trees.specs.Planting.{Step, Finished, NextParent, Underway}

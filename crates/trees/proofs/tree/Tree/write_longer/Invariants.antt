@@ -1,4 +1,4 @@
-use Rattle.std.proofs.Common.{◌≡◌, ◌+◌, ◌-◌, ◌*◌, ◌^◌, ◌≤◌, Ok}
+use Rattle.std.proofs.Common.{◌+◌, ◌-◌, ◌*◌, ◌≤◌, Ok}
 use Rattle.terms.specs.Codes.{base}
 use Rattle.row_laws.specs.Rows.{MoreRows}
 use Rattle.trees.specs.Planting.{Step, Underway}

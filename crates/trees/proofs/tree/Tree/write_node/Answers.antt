@@ -1,6 +1,6 @@
-use Rattle.std.proofs.Common.{◌≡◌, Ok, subst}
+use Rattle.std.proofs.Common.{subst}
 use Rattle.row_laws.specs.Rows.{MoreRows}
-use Rattle.trees.specs.Planting.{Step, Finished, NextWord, Underway}
+use Rattle.trees.specs.Planting.{Step, Finished, Underway}
 use Rattle.trees.specs.Trees.{tree_nodes}
 use Rattle.trees.proofs.Planting.{next_empty}
 use Rattle.trees.proofs.Steps.{stay_step, step_step, step_step_refused, step_weaker}

@@ -1,5 +1,4 @@
-use Rattle.std.proofs.Common.{◌≡◌, ◌≤◌, sym, refl, ap, ◌∙◌, subst, arith}
-use Rattle.racks.specs.Views.{View}
+use Rattle.std.proofs.Common.{◌≡◌, ◌≤◌, sym, ◌∙◌, subst, arith}
 use Rattle.row_laws.specs.Rows.{MoreRows, key_limit}
 use Rattle.row_laws.proofs.Counted.{rows_fit}
 use Rattle.trees.specs.Trees.{tree_nodes}
