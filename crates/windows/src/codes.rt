@@ -1,6 +1,6 @@
 // The digits of items, the codes of words, and the way back.
 ghost use Rattle.std.specs.Prelude.{◌≡◌, ℕ, ◌^◌, ◌<◌, ◌≤◌, List, MatchOption, ◌≢◌};
-ghost use Rattle.terms.specs.Codes.{Item, Word as IsWord, base as the-base, digit as the-digit, item as the-item, code as the_code};
+ghost use Rattle.terms.specs.Codes.{Item, Word as IsWord, base as the_base, digit as the_digit, item as the_item, code as the_code};
 ghost use Rattle.windows.specs.Promises.{Coded};
 ghost use Rattle.windows.specs.Values.{word_items};
 
@@ -21,14 +21,14 @@ fn power(base: u32, order: usize) -> u32
 impl Alphabet {
     // B, the base in which a word's digits are read.
     pub fn base(&self) -> u32
-        ensures { result ≡ the-base self.now.moves }
+        ensures { result ≡ the_base self.now.moves }
     {
         u32::from(self.moves) + 3
     }
 
     // B to the power of k: every code lies below it.
     pub fn code_limit(&self) -> u32
-        ensures value { result ≡ the-base self.now.moves ^ self.now.order }
+        ensures value { result ≡ the_base self.now.moves ^ self.now.order }
         ensures bound { result ≤ 759375 }
     {
         power(self.base(), self.order)
@@ -36,7 +36,7 @@ impl Alphabet {
 
     // The digit of a move or a mark; nothing for any other byte.
     pub fn digit(&self, item: u8) -> Option<u8>
-        ensures { MatchOption result (Item self.now.moves item → ⊥) (λ d. Item self.now.moves item × (d ≡ the-digit self.now.moves item)) }
+        ensures { MatchOption result (Item self.now.moves item → ⊥) (λ d. Item self.now.moves item × (d ≡ the_digit self.now.moves item)) }
     {
         match item {
             START_MARK => Some(self.moves + 1),
@@ -71,8 +71,8 @@ impl Alphabet {
     // The item that has this digit.
     fn item(&self, digit: u32) -> u8
         requires low { 1 ≤ digit }
-        requires high { digit < the-base self.now.moves }
-        ensures { result ≡ the-item self.now.moves digit }
+        requires high { digit < the_base self.now.moves }
+        ensures { result ≡ the_item self.now.moves digit }
     {
         let moves = u32::from(self.moves);
         if digit == moves + 1 {
