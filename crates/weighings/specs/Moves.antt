@@ -6,6 +6,9 @@ use Rattle.std.proofs.lemmas.Bool.{cases_Bool, cases_lt, and_parts, and_from, le
 use Rattle.terms.specs.Words.{Move}
 use Rattle.weighings.specs.Weights.{InRange, move_weights, move_weight, is_move, dearest, HasMove, IsDearest}
 
+pub one_in_range : InRange 1
+one_in_range = record { least = omega arith; most = omega arith }
+
 -- one computed test for the whole table
 in_range : ℕ → Bool
 in_range w = nat_le 1 w && nat_le w 1000

@@ -5,8 +5,7 @@ ghost use Rattle.std.specs.Prelude.{◌≡◌, ℕ, max, List, IfSome, if◌then
 ghost use Rattle.terms.specs.Words.{Move};
 ghost use Rattle.weighings.specs.Weights.{InRange, move_weight, is_move, dearest, IsDearest};
 ghost use Rattle.weighings.specs.Choices.{either_weight};
-ghost use Rattle.std.proofs.Common.{rules};
-ghost use Rattle.weighings.specs.Moves.{dearest_in_range};
+ghost use Rattle.weighings.specs.Moves.{dearest_in_range, one_in_range};
 ghost use Rattle.weighings.specs.declared.Either.TheVariants.{Left, Right};
 
 // Answers a weight for a window, and for any other list of bytes too.
@@ -26,7 +25,7 @@ pub struct Flat;
 impl Weighing for Flat {
     ghost weight = { λ _ _. 1 };
 
-    ghost range = { Prim.search rules };
+    ghost range = { λ w window. one_in_range };
 
     fn weigh(&self, _window: &[u8]) -> u32 {
         1
