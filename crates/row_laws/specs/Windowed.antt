@@ -13,7 +13,7 @@ with_marks (suc zero) u = start_mark ∷ u
 with_marks (suc (suc zero)) u = u ++ (end_mark ∷ [])
 with_marks (suc (suc (suc i))) u = marked u
 
--- so with_marks, that many moves make a window
+-- so marked, that many moves make a window
 abbrev pub Fits : ℕ → ℕ → ℕ → Type 0
 Fits k zero len = len ≡ k
 Fits k (suc zero) len = len + 1 ≡ k

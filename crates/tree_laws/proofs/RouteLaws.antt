@@ -8,7 +8,7 @@ use Rattle.tree_laws.specs.Facts.{SomeContains, SomeBegins, SomeEnds}
 use Rattle.tree_laws.specs.Boundaries.{Turn, next_a, next_b, child, Fresh, Middle, Reached, start, piece}
 use Rattle.tree_laws.specs.Laws.{Cut, Selection, Underway, ChoiceAt, SequenceAt, LoopAt, ParallelAt, ChoiceLaws, SequenceLaws, LoopLaws, ParallelLaws}
 use Rattle.tree_laws.proofs.Parts.{Some, Part, choice_to, choice_from, Joined, across, in_first, in_second, sequence_to, sequence_from, parallel_to, parallel_from}
-use Rattle.tree_laws.proofs.Loops.{Reached as ReachedBy, start as start-by, more, Finished, loop_to, loop_from}
+use Rattle.tree_laws.proofs.Loops.{Reached as ReachedBy, start as start_by, more, Finished, loop_to, loop_from}
 use Rattle.tree_laws.proofs.Masks.{selected, selection}
 use Rattle.tree_laws.proofs.Nodes.{Sides, parts_of, parts_from, Fact, to_part, from_part, proper, some_route}
 
@@ -19,13 +19,13 @@ StartsOf t a b true m x = Middle t a b m x
 
 module _ {t : List Node} {a b : ℕ} where
   pub reached_to : (f : Bool) {m : Turn} {x : List ℕ} → Reached t a b (StartsOf t a b f) m x → ReachedBy (Sides t a b) f m x
-  reached_to false (start s) = start-by s
-  reached_to true {x = x} (start s) = start-by (to_part true false _ x s)
+  reached_to false (start s) = start_by s
+  reached_to true {x = x} (start s) = start_by (to_part true false _ x s)
   reached_to f (piece h r) = more (reached_to f h) r
 
   pub reached_from : (f : Bool) {m : Turn} {x : List ℕ} → ReachedBy (Sides t a b) f m x → Reached t a b (StartsOf t a b f) m x
-  reached_from false (start-by s) = start s
-  reached_from true {x = x} (start-by s) = start (from_part true false _ x s)
+  reached_from false (start_by s) = start s
+  reached_from true {x = x} (start_by s) = start (from_part true false _ x s)
   reached_from f (more h r) = piece (reached_from f h) r
 
 module _ (n : ℕ) (t : List Node) (wf : WellFormed n t) (v a b : ℕ) where
