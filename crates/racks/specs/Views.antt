@@ -1,5 +1,6 @@
--- What a rack means: the number at each key, 0 where a key is not held, with the reach and the room.
-use Rattle.std.specs.Prelude.{◌≡◌, ℕ, zero, suc, ◌+◌, ◌^◌, ◌<◌, ◌≤◌, cond, ◌==◌}
+-- What a rack means: the number at each key, 0 where a key is not held, its reach and room, and the memory it was lent.
+use Rattle.std.specs.Prelude.{◌≡◌, ℕ, zero, suc, ◌+◌, ◌^◌, ◌<◌, ◌≤◌, if◌then◌else◌, min, List, [], ◌∷◌, ◌==◌}
+use Rattle.std.specs.Borrow.{GName}
 
 -- 1 for the number of a held key, 0 for 0
 abbrev pub one_if_held : ℕ → ℕ
@@ -16,15 +17,28 @@ unfoldable pub sum_below : (ℕ → ℕ) → ℕ → ℕ
 sum_below f zero = 0
 sum_below f (suc n) = sum_below f n + f n
 
+-- how many of n places a rack uses: those from 2^26 on serve none
+abbrev pub places_used : ℕ → ℕ
+places_used n = min n 67108864
+
+-- a lent value on which a rack stands: which one, and what the places that it never uses hold, as numbers
+pub record Lent : Type 0 where
+  pub name : GName
+  pub beyond : List ℕ
+
 pub record View : Type 0 where
   pub number : ℕ → ℕ
   pub reach : ℕ
   pub room : ℕ
-  pub reach_fits : reach < 2 ^ 32
-  pub room_fits : room < 2 ^ 32
-  pub number_fits : (k : ℕ) → number k < 2 ^ 32
-  pub below_reach : (k : ℕ) → reach ≤ k → number k ≡ 0
-  pub within_room : held_count number reach ≤ room
+  pub lent : List Lent
+
+-- the bounds of every rack
+pub record Bounded (v : View) : Type 0 where
+  pub reach_fits : v.reach < 2 ^ 32
+  pub room_fits : v.room < 2 ^ 32
+  pub number_fits : (k : ℕ) → v.number k < 2 ^ 32
+  pub below_reach : (k : ℕ) → v.reach ≤ k → v.number k ≡ 0
+  pub within_room : held_count v.number v.reach ≤ v.room
 
 -- how many keys are held
 abbrev pub held_in : View → ℕ
@@ -32,7 +46,7 @@ held_in v = held_count v.number v.reach
 
 -- the numbers f, but with this number at this key
 abbrev pub written : (ℕ → ℕ) → ℕ → ℕ → ℕ → ℕ
-written f key number k = cond (k == key) number (f k)
+written f key number k = if k == key then number else f k
 
 -- k is the smallest held key that is not below the key from
 pub record Smallest (f : ℕ → ℕ) (from k : ℕ) : Type 0 where
@@ -44,32 +58,38 @@ pub record Smallest (f : ℕ → ℕ) (from k : ℕ) : Type 0 where
 abbrev pub NoneFrom : (ℕ → ℕ) → ℕ → Type 0
 NoneFrom f from = (k : ℕ) → from ≤ k → f k ≡ 0
 
+-- no key is held from the first key to before the second
+abbrev pub NoneBetween : (ℕ → ℕ) → ℕ → ℕ → Type 0
+NoneBetween f from end = (k : ℕ) → from ≤ k → k < end → f k ≡ 0
+
 -- the write takes one more key, and the room is used up
 pub record LacksRoom (v : View) (key number : ℕ) : Type 0 where
   pub put_in : 0 < number
   pub not_held : v.number key ≡ 0
   pub used_up : v.room ≤ held_in v
 
--- every key has the same number after as before, and reach and room are the same
-pub record Unaltered (before after : View) : Type 0 where
-  pub numbers : (k : ℕ) → after.number k ≡ before.number k
-  pub reach : after.reach ≡ before.reach
-  pub room : after.room ≡ before.room
-
 -- after the write of a number at a key: every other key has its number still
-pub record Written (before after : View) (key number : ℕ) : Type 0 where
-  pub numbers : (k : ℕ) → after.number k ≡ written before.number key number k
-  pub reach : after.reach ≡ before.reach
-  pub room : after.room ≡ before.room
+abbrev pub after_write : View → ℕ → ℕ → View
+after_write v key number = record v { number = written v.number key number }
 
--- no key is held after, and reach and room are the same
-pub record Emptied (before after : View) : Type 0 where
-  pub numbers : (k : ℕ) → after.number k ≡ 0
-  pub reach : after.reach ≡ before.reach
-  pub room : after.room ≡ before.room
+-- after every key was taken out
+abbrev pub after_empty : View → View
+after_empty v = record v { number = λ _. 0 }
 
 -- a rack as it is made: no key is held
-pub record Fresh (v : View) (reach room : ℕ) : Type 0 where
-  pub numbers : (k : ℕ) → v.number k ≡ 0
-  pub reach_is : v.reach ≡ reach
-  pub room_is : v.room ≡ room
+abbrev pub new_rack : ℕ → ℕ → Lent → View
+new_rack reach room lent = record { number = λ _. 0; reach = reach; room = room; lent = lent ∷ [] }
+
+-- a lent rack means what the rack means, and stands on one lent value more
+abbrev pub lent_view : GName → View → View
+lent_view name v = record v { lent = record { name = name; beyond = [] } ∷ v.lent }
+
+pub lent_bounded : (name : GName) (v : View) → Bounded v → Bounded (lent_view name v)
+lent_bounded name v b =
+    record {
+      reach_fits = b.reach_fits;
+      room_fits = b.room_fits;
+      number_fits = b.number_fits;
+      below_reach = b.below_reach;
+      within_room = b.within_room;
+    }

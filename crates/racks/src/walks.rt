@@ -1,33 +1,25 @@
 // What any rack can be asked for, whatever it is made of.
-ghost use Rattle.std.specs.Prelude.{◌≡◌};
-ghost use Rattle.racks.specs.Views.{Unaltered, sum_below};
+ghost use Rattle.std.specs.Prelude.{◌≡◌, ◌<◌, MatchOption};
+ghost use Rattle.racks.specs.Views.{Smallest, NoneBetween, sum_below};
 
 use crate::Rack;
 
-// The sum of all numbers held.
-pub fn total<R: Rack>(rack: &mut R) -> u64
-    ensures answer { R.sound rack.old → result ≡ sum_below (R.view rack.old).number (R.view rack.old).reach }
-    ensures unaltered { R.sound rack.old → Unaltered (R.view rack.old) (R.view rack.new) }
-    ensures stays_sound { R.sound rack.old → R.sound rack.new }
-    ensures memory { R.unused rack.new ≡ R.unused rack.old }
+// The smallest held key that is not below `from` and is below `end`.
+pub fn next_before<R: Rack>(rack: &mut R, from: u32, end: u32) -> Option<u32>
+    ensures answer { MatchOption result (NoneBetween (R.view rack.old).number from end) (λ k. Smallest (R.view rack.old).number from k × (k < end)) }
+    ensures unaltered { R.view rack.new ≡ R.view rack.old }
 {
-    sum_from(rack, 0)
+    rack.next(from).filter(|key| *key < end)
 }
 
-// The sum of the numbers held at the keys from the first on.
-fn sum_from<R: Rack>(rack: &mut R, first: u32) -> u64
-    ensures answer { R.sound rack.old → first ≡ 0 → result ≡ sum_below (R.view rack.old).number (R.view rack.old).reach }
-    ensures unaltered { R.sound rack.old → Unaltered (R.view rack.old) (R.view rack.new) }
-    ensures stays_sound { R.sound rack.old → R.sound rack.new }
-    ensures memory { R.unused rack.new ≡ R.unused rack.old }
+// The sum of all numbers held.
+pub fn total<R: Rack>(rack: &mut R) -> u64
+    ensures answer { result ≡ sum_below (R.view rack.old).number (R.view rack.old).reach }
+    ensures unaltered { R.view rack.new ≡ R.view rack.old }
 {
     let mut sum = 0;
-    let mut from = first;
+    let mut from = 0;
     while let Some(key) = rack.next(from) {
-        // Only a rack that is not sound answers so: the walk ends there too.
-        if key < from || key == u32::MAX {
-            return sum;
-        }
         sum += u64::from(rack.read(key));
         from = key + 1;
     }
