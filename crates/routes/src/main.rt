@@ -1,12 +1,9 @@
 // The sample level from beginning to end: what the testers played, what the tree allows, and how the two meet.
 #![tactic(auto)]
 
-use anyhow::anyhow;
 use examples::proved_examples;
 use list_rack::{ListRack, Row};
-use racks::Rack;
-use terms::Refusal;
-use tree_laws::Node;
+use racks::{Rack, next_before};
 use trees::{RawNode, Tree};
 use windows::{Alphabet, Cut};
 
@@ -38,15 +35,8 @@ const TABLE: [RawNode; 3] = [
     },
 ];
 
-fn accepted<T: Drop>(res: Result<T, Refusal>) -> anyhow::Result<T> {
-    match res {
-        Ok(value) => Ok(value),
-        Err(_) => Err(anyhow!("the sample level is refused")),
-    }
-}
-
 fn cut_of(alphabet: &Alphabet, entry: &Entry) -> anyhow::Result<Cut> {
-    let play = accepted(alphabet.play(entry.moves))?;
+    let play = alphabet.play(entry.moves)?;
     Ok(alphabet.cut(&play))
 }
 
@@ -70,24 +60,11 @@ fn print_play(
     Ok(())
 }
 
-fn print_node(rt: &HostRuntime, number: usize, node: Node) -> anyhow::Result<()> {
-    match node {
-        Node::Skip => println!(rt; "node {number}: skip")?,
-        Node::Move(m) => println!(rt; "node {number}: move {m}")?,
-        Node::Choice(a, b) => println!(rt; "node {number}: choice of {a} and {b}")?,
-        Node::Sequence(a, b) => println!(rt; "node {number}: {a}, then {b}")?,
-        Node::Loop(a, b) => println!(rt; "node {number}: loop of {a} and {b}")?,
-        Node::Parallel(a, b) => println!(rt; "node {number}: {a} and {b} in parallel")?,
-    }
-    Ok(())
-}
-
 // At how many places the word stands in all these cuts.
 fn places(cuts: &[Cut], word: &[u8]) -> u32 {
-    let mut all = 0;
-    for cut in cuts {
-        all = cut.count(word).saturating_add(all);
-    }
+    let all = cuts
+        .iter()
+        .fold(0, |all: usize, cut| all.saturating_add(cut.count(word)));
     u32::try_from(all).unwrap_or(u32::MAX)
 }
 
@@ -95,20 +72,10 @@ fn places(cuts: &[Cut], word: &[u8]) -> u32 {
 fn tally<R: Rack>(alphabet: &Alphabet, log: &mut R, cut: &Cut, cuts: &[Cut]) -> anyhow::Result<()> {
     for window in cut.windows() {
         if let Some(code) = alphabet.code(window.items()) {
-            accepted(log.write(code, places(cuts, window.items())))?;
+            log.write(code, places(cuts, window.items()))?;
         }
     }
     Ok(())
-}
-
-// The lowest code of a window from `from` on that the rack holds.
-fn next_code<R: Rack>(alphabet: &Alphabet, rack: &mut R, from: u32) -> Option<u32> {
-    let code = rack.next(from)?;
-    if code < alphabet.code_limit() {
-        Some(code)
-    } else {
-        None
-    }
 }
 
 fn print_playable<R: Rack>(
@@ -116,15 +83,13 @@ fn print_playable<R: Rack>(
     alphabet: &Alphabet,
     model: &mut R,
 ) -> anyhow::Result<()> {
+    let limit = alphabet.code_limit();
     let mut from = 0;
-    for _ in 0..alphabet.code_limit() {
-        let Some(code) = next_code(alphabet, model, from) else {
-            break;
-        };
+    while let Some(code) = next_before(model, from, limit) {
         if let Some(window) = alphabet.word(code) {
             println!(rt; "  {window} code {code}")?;
         }
-        from = code.saturating_add(1);
+        from = code + 1;
     }
     Ok(())
 }
@@ -136,11 +101,9 @@ fn print_played<R: Rack, S: Rack>(
     log: &mut R,
     model: &mut S,
 ) -> anyhow::Result<()> {
+    let limit = alphabet.code_limit();
     let mut from = 0;
-    for _ in 0..alphabet.code_limit() {
-        let Some(code) = next_code(alphabet, log, from) else {
-            break;
-        };
+    while let Some(code) = next_before(log, from, limit) {
         let times = log.read(code);
         let allowed = if model.read(code) == 0 {
             "not allowed"
@@ -150,23 +113,24 @@ fn print_played<R: Rack, S: Rack>(
         if let Some(window) = alphabet.word(code) {
             println!(rt; "  {window} code {code}: played {times} times, {allowed}")?;
         }
-        from = code.saturating_add(1);
+        from = code + 1;
     }
     Ok(())
 }
 
 fn print_tree<R: Rack>(rt: &HostRuntime, alphabet: &Alphabet, model: &mut R) -> anyhow::Result<()> {
-    let tree = accepted(Tree::new(*alphabet, &TABLE))?;
+    let tree = Tree::new(*alphabet, &TABLE)?;
     for (i, node) in tree.nodes().iter().enumerate() {
-        print_node(rt, i + 1, *node)?;
+        let number = i + 1;
+        println!(rt; "node {number}: {node}")?;
     }
-    let playable = accepted(tree.write_rows(model))?;
+    let playable = tree.write_rows(model)?;
     println!(rt; "playable windows: {playable}")?;
     print_playable(rt, alphabet, model)
 }
 
 fn run(rt: &HostRuntime) -> anyhow::Result<()> {
-    let alphabet = accepted(Alphabet::new(3, 3))?;
+    let alphabet = Alphabet::new(3, 3)?;
     let moves = alphabet.moves();
     let order = alphabet.order();
     println!(rt; "{moves} moves, order {order}")?;
