@@ -23,7 +23,7 @@ impl Play {
     {
         let mut items = FixedVec::new();
         items.push(START_MARK);
-        items.extend(self.moves());
+        items.extend_from_slice(self.moves());
         items.push(END_MARK);
         items
     }
