@@ -9,21 +9,15 @@ use fixed_vec::FixedVec;
 use terms::Refusal;
 
 // The place, counted from 1, of the first item outside 1 to n.
-pub(crate) fn first_wrong(n: u8, items: &[u8]) -> Option<usize>
+fn first_wrong(n: u8, items: &[u8]) -> Option<usize>
     ensures { MatchOption result (Moves n items.now) (λ p. FirstWrong n items.now p) }
 {
     for (i, x) in items.iter().enumerate() {
-        if *x == 0 || *x > n {
+        if !(1..=n).contains(x) {
             return Some(i + 1);
         }
     }
     None
-}
-
-pub(crate) fn all_moves(n: u8, items: &[u8]) -> bool
-    ensures { Decides result (Moves n items.now) }
-{
-    first_wrong(n, items).is_none()
 }
 
 impl Alphabet {
@@ -50,7 +44,7 @@ impl Alphabet {
     pub fn are_moves(&self, items: &[u8]) -> bool
         ensures { Decides result (Moves self.now.moves items.now) }
     {
-        all_moves(self.moves, items)
+        items.iter().all(|x| (1..=self.moves).contains(x))
     }
 
     pub fn order(&self) -> usize

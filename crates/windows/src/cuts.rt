@@ -57,12 +57,6 @@ impl Alphabet {
     }
 }
 
-fn same(a: &[u8], b: &[u8]) -> bool
-    ensures { result ≡ same_text a.now b.now }
-{
-    a == b
-}
-
 impl Cut {
     // The windows, in order.
     pub fn windows(&self) -> &[Word]
@@ -77,7 +71,7 @@ impl Cut {
     {
         self.windows()
             .iter()
-            .filter(|window| same(window.items(), word))
+            .filter(|window| window.items() == word)
             .count()
     }
 }

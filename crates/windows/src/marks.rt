@@ -3,7 +3,6 @@ ghost use Rattle.std.specs.Prelude.{Decides};
 ghost use Rattle.terms.specs.Words.{IsWindow};
 
 use crate::alphabet::Alphabet;
-use crate::checks::all_moves;
 
 pub const START_MARK: u8 = b'+';
 
@@ -23,6 +22,6 @@ impl Alphabet {
         } else {
             len == self.order
         };
-        fits && all_moves(self.moves, moves)
+        fits && self.are_moves(moves)
     }
 }

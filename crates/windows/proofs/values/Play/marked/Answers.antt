@@ -1,7 +1,7 @@
 use Rattle.std.proofs.Common.{length, ◌≤◌, ap, ◌∙◌, ◌++◌, [], ◌∷◌, take, subst, sym}
 use Rattle.fixed_vec.proofs.Room.{room}
 use Rattle.terms.specs.Words.{marked}
-use Rattle.windows.proofs.Steps.{marks_around}
+use Rattle.windows.proofs.Cutting.{marks_around}
 use Rattle.windows.proofs.values.Play.marked.Goals as goal
 
 pub returns : goal.returns
