@@ -1,5 +1,5 @@
 // What an alphabet accepts: its own numbers, and the moves of a play.
-ghost use Rattle.std.specs.Prelude.{◌≡◌, ◌≤◌, Decides, MatchOption, MatchResult};
+ghost use Rattle.std.specs.Prelude.{◌≡◌, ◌≤◌, ◌↔◌, IsTrue, MatchOption, MatchResult};
 ghost use Rattle.terms.specs.Words.{Moves, FirstWrong};
 ghost use Rattle.windows.specs.Promises.{Opens, PlayRead, PlayRefused};
 
@@ -42,7 +42,7 @@ impl Alphabet {
 
     // Whether each of these bytes is one of the moves 1 to n.
     pub fn are_moves(&self, items: &[u8]) -> bool
-        ensures { Decides result (Moves self.now.moves items.now) }
+        ensures { IsTrue result ↔ Moves self.now.moves items.now }
     {
         items.iter().all(|x| (1..=self.moves).contains(x))
     }

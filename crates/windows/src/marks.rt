@@ -1,5 +1,5 @@
 // Telling a window from other bytes.
-ghost use Rattle.std.specs.Prelude.{Decides};
+ghost use Rattle.std.specs.Prelude.{◌↔◌, IsTrue};
 ghost use Rattle.terms.specs.Words.{IsWindow};
 
 use crate::alphabet::Alphabet;
@@ -11,7 +11,7 @@ pub const END_MARK: u8 = b'-';
 impl Alphabet {
     // Whether these bytes are a window of this alphabet.
     pub fn is_window(&self, bytes: &[u8]) -> bool
-        ensures { Decides result (IsWindow self.now.moves self.now.order bytes.now) }
+        ensures { IsTrue result ↔ IsWindow self.now.moves self.now.order bytes.now }
     {
         let rest = bytes.strip_prefix(&[START_MARK]).unwrap_or(bytes);
         let moves = rest.strip_suffix(&[END_MARK]).unwrap_or(rest);
