@@ -4,6 +4,7 @@ ghost use Rattle.terms.specs.Words.{IsWindow};
 
 use crate::alphabet::Alphabet;
 
+// The items before and after the moves of a play; no move has these numbers.
 pub const START_MARK: u8 = b'+';
 
 pub const END_MARK: u8 = b'-';
