@@ -8,7 +8,8 @@ use Rattle.search.specs.Places.{Ascending, StandsAt, BelongsAt, SmallerBefore}
 use Rattle.search.proofs.Halves.{ascending_far}
 use Rattle.list_rack.specs.declared.Row.{Row}
 use Rattle.racks.specs.Views.{held_count, one_if_held, written, Smallest, NoneFrom}
-use Rattle.racks.specs.Counts.{one_if_held_some, held_count_none, held_count_written, written_here, written_other}
+use Rattle.racks.proofs.Counts.{one_if_held_some}
+use Rattle.racks.specs.Counts.{held_count_none, held_count_written, written_here, written_other}
 use Rattle.list_rack.specs.Rows.{Holds, CanHold, Placed, no_row, row_key, number_in, list_reach, number_absent}
 
 -- the number of a row, where those before it have smaller keys

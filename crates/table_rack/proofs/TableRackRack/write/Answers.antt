@@ -1,6 +1,6 @@
 use Rattle.std.proofs.Common.{arith, rules}
 use Rattle.std.proofs.lemmas.List.{drop-set-lt}
-use Rattle.racks.specs.Counts.{held_count_room}
+use Rattle.racks.proofs.Counts.{held_count_room}
 use Rattle.table_rack.specs.Tables.{cell}
 use Rattle.table_rack.proofs.Cells.{cell_counted, count_fits, table_set, cell_set}
 use Rattle.table_rack.proofs.TableRackRack.write.Goals as goal
