@@ -1,5 +1,5 @@
 -- What held rows say of the numbers at keys, and what putting in, taking out or replacing a row leaves.
-use Rattle.std.proofs.Common.{◌≡◌, ℕ, zero, suc, ◌+◌, ◌<◌, ◌≤◌, List, [], ◌∷◌, ◌++◌, length, get_or, take, drop, set, IfOk, IfErr, Ok, Err, Result, sym, refl, ap, ◌∙◌, subst, drop-cons, arith}
+use Rattle.std.proofs.Common.{◌≡◌, ℕ, zero, suc, ◌+◌, ◌-◌, ◌<◌, ◌≤◌, List, [], ◌∷◌, ◌++◌, length, get_or, take, drop, set, IfOk, IfErr, Ok, Err, Result, sym, refl, ap, ◌∙◌, subst, drop-cons, arith}
 use Rattle.std.specs.List.{All, insert, remove}
 use Rattle.std.proofs.lemmas.List.{length-take, length-drop, get_or-drop, get_or-take, length-take-le, set_split, get_or_default}
 use Rattle.std.proofs.lemmas.List.Elements.{All-head, All-tail}
@@ -120,4 +120,19 @@ placed rows n key holds (Err i) found belongs =
         λ below. subst (λ (row : Row). Smallest (number_in (take n rows)) key row.key) (get_or-take n rows i no_row below) (next_at _ holds.ascending holds.each key i belongs.smaller (omega arith) no_row (omega (arith, belongs.larger i no_row (omega arith) (omega arith)))),
         λ past. none_after (take n rows) key i belongs (omega arith),
       );
+    }
+
+-- a key above that of the last held row belongs behind it
+pub belongs_last : (rows : List Row) (n key : ℕ) → Holds rows n → (0 < n → (get_or rows (n - 1) no_row).key < key) → BelongsAt row_key (take n rows) key n
+belongs_last rows n key holds above =
+    let size : length (take n rows) ≡ n = length-take-le n rows (omega (arith, holds.within)) in
+    record {
+      inside = omega arith;
+      smaller = λ j d l.
+          let at = get_or-take n rows (n - 1) d (omega arith) in
+          let same = get_or_default rows (n - 1) d no_row (omega (arith, holds.within)) in
+          let far = λ (b : j < n - 1). ascending_far row_key (take n rows) holds.ascending j (n - 1) d b (omega arith) in
+          let last = above (omega arith) in
+          grind (arith, common_steps);
+      larger = λ j d l h. absurd (omega arith);
     }

@@ -1,5 +1,5 @@
 -- What a slice of rows means as a list rack: the first rows are held, ascending by key.
-use Rattle.std.specs.Prelude.{◌≡◌, ℕ, ◌^◌, ◌<◌, ◌≤◌, List, [], ◌∷◌, length, get_or, take, drop, Result, MatchResult, ◌≢◌, refl}
+use Rattle.std.specs.Prelude.{◌≡◌, ℕ, ◌^◌, ◌<◌, ◌≤◌, List, [], ◌∷◌, length, slice_index_or, take, drop, Result, MatchResult, ◌≢◌, refl}
 use Rattle.std.specs.List.{All}
 use Rattle.std.specs.Borrow.{GName}
 use Rattle.std.proofs.Common.{sym, ◌∙◌, arith}
@@ -49,8 +49,8 @@ pub record Holds (rows : List Row) (n : ℕ) : Type 0 where
 pub record Placed (rows : List Row) (n key : ℕ) (r : Result ℕ ℕ) : Type 0 where
   pub place : MatchResult r (λ i. StandsAt row_key (take n rows) key i) (λ i. BelongsAt row_key (take n rows) key i)
   pub inside : MatchResult r (λ i. i < n) (λ i. i ≤ n)
-  pub number : MatchResult r (λ i. ((get_or rows i no_row).number ≡ number_in (take n rows) key) × (0 < number_in (take n rows) key)) (λ _. number_in (take n rows) key ≡ 0)
-  pub next : MatchResult r (λ _. Smallest (number_in (take n rows)) key key) (λ i. (i < n → Smallest (number_in (take n rows)) key (get_or rows i no_row).key) × (n ≤ i → NoneFrom (number_in (take n rows)) key))
+  pub number : MatchResult r (λ i. ((slice_index_or rows i no_row).number ≡ number_in (take n rows) key) × (0 < number_in (take n rows) key)) (λ _. number_in (take n rows) key ≡ 0)
+  pub next : MatchResult r (λ _. Smallest (number_in (take n rows)) key key) (λ i. (i < n → Smallest (number_in (take n rows)) key (slice_index_or rows i no_row).key) × (n ≤ i → NoneFrom (number_in (take n rows)) key))
 
 -- the lent slice, and its rows past the places used
 abbrev pub lent_rows : GName → List Row → Lent

@@ -46,7 +46,12 @@ impl<'a> ListRack<'a> {
     fn place(&self, key: u32) -> Result<usize, usize>
         ensures { Placed self.now.rows.now self.now.len key result }
     {
-        find(&self.rows[..self.len as usize], u64::from(key))
+        let len = self.len as usize;
+        // Keys are mostly written in ascending order.
+        if len == 0 || self.rows[len - 1].key < key {
+            return Err(len);
+        }
+        find(&self.rows[..len], u64::from(key))
     }
 
     // How many rows are held, which is how many keys are.
