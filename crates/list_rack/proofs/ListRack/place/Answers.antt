@@ -1,8 +1,19 @@
-use Rattle.std.proofs.Common.{arith, rules}
-use Rattle.list_rack.proofs.Rows.{placed}
+use Rattle.std.proofs.Common.{◌<◌, ◌-◌, get_or, Err, arith, rules}
+use Rattle.list_rack.specs.Rows.{no_row}
+use Rattle.list_rack.proofs.Rows.{belongs_last, placed}
+use Rattle.list_rack.proofs.ListRack.place.Goals.{then-len-eq0-via-then-len-eq0, then-len-eq0-via-else-len-eq0+then-self-len}
 use Rattle.list_rack.proofs.ListRack.place.Goals as goal
+
+pub returns-then-len-eq0 : goal.returns-then-len-eq0
+returns-then-len-eq0 c =
+    let s = c.args.self.now in
+    let above : 0 < s.len → (get_or s.rows.now (s.len - 1) no_row).key < c.args.key = λ some. elim c.then-len-eq0.branch [
+      | then-len-eq0-via-then-len-eq0 w ↦ absurd (omega (arith, w.if-len-eq0.true))
+      | then-len-eq0-via-else-len-eq0+then-self-len w ↦ w.if-self-len.true
+    ] in
+    placed s.rows.now s.len c.args.key s.holds (Err s.len) (search rules) (belongs_last s.rows.now s.len c.args.key s.holds above)
 
 pub returns : goal.returns
 returns c =
     let s = c.args.self.now in
-    placed s.rows.now s.len c.args.key (omega arith) s.ascending s.holding c.find.result (search rules) (search rules)
+    placed s.rows.now s.len c.args.key s.holds c.find.result (search rules) (search rules)
