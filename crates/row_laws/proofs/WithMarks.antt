@@ -15,7 +15,7 @@ use Rattle.tree_laws.specs.Facts.{Playable, Standing}
 use Rattle.tree_laws.specs.Routes.{WellFormed}
 use Rattle.tree_laws.proofs.Nodes.{route_moves}
 use Rattle.tree_laws.proofs.Rows.{played_at}
-use Rattle.tree_laws.proofs.Windows.{all_parts}
+use Rattle.terms.proofs.Ends.{all_parts}
 use Rattle.row_laws.specs.Windowed.{with_marks, Fits, turn}
 
 -- x is the moves of a word with their marks, and a window

@@ -1,6 +1,6 @@
 -- Standings: from bits to facts and back, worked out from the children, and one for each word.
-use Rattle.std.proofs.Common.{◌≡◌, ℕ, zero, suc, ◌+◌, ◌-◌, ◌*◌, ◌/◌, ◌%◌, ◌<◌, ◌≤◌, Bool, true, false, cond, not, eqb, ◌↔◌, List, length, get_or, Decides, All, sym, refl, ap, ◌∙◌, ⊎_elim, mod-eq_of_lt, one-mul, div-add-mod', zero-mul, div-one, arith, length-drop, length-take}
-use lib.Bits.{bit_and, and_high}
+use Rattle.std.proofs.Common.{◌≡◌, ℕ, zero, suc, ◌+◌, ◌-◌, ◌/◌, ◌<◌, ◌≤◌, Bool, true, false, cond, not, eqb, ◌↔◌, List, length, get_or, Decides, All, sym, refl, ap, ◌∙◌, ⊎_elim, arith, length-drop, length-take}
+use lib.Bits.{bit_and}
 use Rattle.std.proofs.lemmas.Nat.{shr-shr}
 use Rattle.std.proofs.lemmas.List.Elements.{All-cons, All-drop, All-head, All-nil, All-tail, All-take}
 use Rattle.std.proofs.lemmas.Bool.{eqb-true, eq-eqb, not_from_true, both_ways, cases_Bool}
