@@ -17,12 +17,7 @@ use Rattle.row_laws.proofs.Windowed.{node_key_high}
 
 -- only the numbers at keys matter
 pub rows_same : (n k : ℕ) (t : List Node) {f g : ℕ → ℕ} → ((key : ℕ) → g key ≡ f key) → RowsAt n k t f → RowsAt n k t g
-rows_same n k t same h = record {
-  standings = λ v u low high moves short. subst (Standing t v u) (sym (same (row_key n k v u))) (h.standings v u low high moves short);
-  played = λ u is plays. same (code n u) ∙ h.played u is plays;
-  unplayed = λ u is not_played. same (code n u) ∙ h.unplayed u is not_played;
-  only = λ key held. h.only key (subst (λ x. 0 < x) (same key) held);
-}
+rows_same n k t same = subst (RowsAt n k t) (λ i key. sym (same key) i)
 
 held_count_split : (f : ℕ → ℕ) (a b : ℕ) → held_count f (a + b) ≡ held_count f a + held_count (λ i. f (a + i)) b
 unfolding held_count

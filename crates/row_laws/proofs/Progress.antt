@@ -23,18 +23,10 @@ use Rattle.row_laws.proofs.Keys.{items_from_moves, code_of_moves, code_of_push, 
 module _ (n k : ℕ) (few : n ≤ 12) (t : List Node) where
   -- only the numbers at keys matter
   pub upto_same : (m : ℕ) (f g : ℕ → ℕ) → ((key : ℕ) → g key ≡ f key) → Upto n k t m f → Upto n k t m g
-  upto_same m f g same h = record {
-    standings = λ v u low high moves short. subst (Standing t v u) (sym (same (row_key n k v u))) (h.standings v u low high moves short);
-    only = λ key held. h.only key (subst (λ x. 0 < x) (same key) held);
-  }
+  upto_same m f g same = subst (Upto n k t m) (λ i key. sym (same key) i)
 
   pub progress_same : (m d : ℕ) (f g : ℕ → ℕ) → ((key : ℕ) → g key ≡ f key) → InProgress n k t m d f → InProgress n k t m d g
-  progress_same m d f g same h = record {
-    standings = λ v u low high moves short. subst (Standing t v u) (sym (same (row_key n k v u))) (h.standings v u low high moves short);
-    done = λ u moves short l. subst (Standing t (m + 1) u) (sym (same (row_key n k (m + 1) u))) (h.done u moves short l);
-    pending = λ u moves short l. same (row_key n k (m + 1) u) ∙ h.pending u moves short l;
-    only = λ key held. h.only key (subst (λ x. 0 < x) (same key) held);
-  }
+  progress_same m d f g same = subst (InProgress n k t m d) (λ i key. sym (same key) i)
 
   -- an empty rack has the rows of no node
   pub upto_none : (f : ℕ → ℕ) → ((key : ℕ) → f key ≡ 0) → Upto n k t 0 f
@@ -204,12 +196,6 @@ module _ (n k : ℕ) (few : n ≤ 12) where
     pub progress_exhausted : (c : ℕ) (f : ℕ → ℕ) → c ≤ base n ^ k → ((u : List ℕ) → Moves n u → length u ≤ k → c ≤ code n u → f (row_key n k (m + 1) u) ≡ 0) → InProgress n k t m (c * base n + 1) f → Upto n k t (m + 1) f
     progress_exhausted c f le free h =
         progress_ends (base n ^ k) f (omega (arith, mul-le-mul_left {m = 1} {n = base n} (base n ^ k) (omega arith))) (progress_skip c (base n ^ k) f le (λ u moves short low high. free u moves short low) h)
-
-    -- the first row of the node is that of the empty word
-    pub progress_start : (f : ℕ → ℕ) (s : ℕ) → Upto n k t m f → Standing t (m + 1) [] s → InProgress n k t m (0 * base n + 1) (written f (row_key n k (m + 1) []) s)
-    progress_start f s h stands =
-        let one : 0 + 1 ≡ 0 * base n + 1 = omega arith in
-        subst (λ d. InProgress n k t m d (written f (row_key n k (m + 1) []) s)) one (progress_write n k few t m [] (All-nil (Move n)) (omega arith) f s (progress_none n k few t m f h) stands)
 
     module _ (d : ℕ) (f : ℕ → ℕ) (h : InProgress n k t m d f) where
       -- a word whose tail is not held is contained in no route
