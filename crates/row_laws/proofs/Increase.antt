@@ -1,9 +1,8 @@
 -- By how many keys the rows of the windows are more than those of the nodes.
 use Rattle.std.proofs.Common.{◌≡◌, ℕ, zero, suc, ◌+◌, ◌-◌, ◌^◌, ◌<◌, ◌≤◌, List, length, sym, ap, ◌∙◌, subst, inl, inr, ⊎_elim, add-zero, add-suc, arith}
 use Rattle.std.proofs.lemmas.Bool.{cases_lt}
-use Rattle.terms.specs.Codes.{base, code}
+use Rattle.terms.specs.Codes.{base}
 use Rattle.terms.proofs.Codes.{code_below}
-use Rattle.tree_laws.specs.Facts.{Standing}
 use Rattle.tree_laws.specs.Routes.{WellFormed}
 use Rattle.tree_laws.specs.declared.Node.{Node}
 use Rattle.tree_laws.proofs.Computed.{bits_at, unique_standing}
