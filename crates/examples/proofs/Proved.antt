@@ -2,7 +2,8 @@
 use Rattle.std.proofs.Common.{◌≡◌, ℕ, Bool, true, false, ◌&&◌, eqb, List, [], ◌∷◌, All, refl}
 use Rattle.std.specs.Str.{bytes_eq}
 use Rattle.std.proofs.lemmas.Slice.Eq.{bytes_eq-Decides}
-use Rattle.std.proofs.lemmas.List.Elements.{All-cons, All-nil}
+use Rattle.std.proofs.lemmas.List.Elements.{All-weaker}
+use Rattle.std.proofs.lemmas.List.Sums.{AllPass-from_list_all}
 use Rattle.std.proofs.lemmas.Bool.{and_parts, eqb-true, false≢true}
 use Rattle.terms.specs.Codes.{code}
 use Rattle.terms.specs.Words.{marked, windows}
@@ -36,13 +37,5 @@ holds (coded n word number) e = eqb-true (code n word) number e
 holds (plays n k tree ws) e = plays_from_test n k tree ws e
 holds (unplayable n k tree window) e = unplayable_from_test n k tree window e
 
-abbrev all_pass : List Example → Bool
-all_pass [] = true
-all_pass (x ∷ xs) = passes x && all_pass xs
-
-from_tests : (xs : List Example) → all_pass xs ≡ true → All Holds xs
-from_tests [] e = All-nil Holds
-from_tests (x ∷ xs) e = let (here, rest) = and_parts _ _ e in All-cons Holds x xs (holds x here) (from_tests xs rest)
-
 pub all_hold : All Holds examples
-all_hold = from_tests examples refl
+all_hold = All-weaker (λ x. passes x ≡ true) Holds holds examples (AllPass-from_list_all passes examples refl)

@@ -35,10 +35,10 @@ fits_short k (suc (suc zero)) len h = omega arith
 fits_short k (suc (suc (suc i))) len h = omega arith
 
 -- the start mark counts 1, and the end mark 2
-abbrev mark_value : ℕ → ℕ
+abbrev pub mark_value : ℕ → ℕ
 mark_value x = cond (eqb x start_mark) 1 (cond (eqb x end_mark) 2 0)
 
-abbrev no_mark : ℕ → Bool
+abbrev pub no_mark : ℕ → Bool
 no_mark x = ltb x start_mark
 
 module _ (n : ℕ) (few : n ≤ 12) where
