@@ -1,15 +1,15 @@
 -- Computed tests tell that a table is well-formed, that a list has exactly its playable windows, and that one is not playable.
-use Rattle.std.proofs.Common.{◌≡◌, ℕ, if◌then◌else◌, sum_by, zero, suc, ◌+◌, ◌-◌, ◌^◌, ◌<◌, ◌≤◌, Bool, true, false, cond, not, ◌&&◌, ◌||◌, eqb, ltb, leb, List, [], ◌∷◌, length, get_or, Decides, All, Contains, filter, sym, refl, subst, arith}
+use Rattle.std.proofs.Common.{◌≡◌, ℕ, if◌then◌else◌, sum_by, zero, suc, ◌+◌, ◌-◌, ◌^◌, ◌<◌, ◌≤◌, Bool, true, false, cond, not, ◌&&◌, eqb, ltb, leb, List, [], ◌∷◌, length, get_or, Decides, All, Contains, filter, sym, refl, subst, arith}
 use mathlib.Core.Bool.{beq}
 use Rattle.std.specs.List.{list_all, list_any}
 use Rattle.std.specs.Cmp.{booleans_Decides}
 use Rattle.std.specs.Str.{bytes_eq}
 use Rattle.std.proofs.lemmas.List.Sums.{AllPass-from_list_all}
-use Rattle.std.proofs.lemmas.List.Elements.{All-weaker, All-cons, All-contains, All-head, All-nil, All-tail, Decides-contains}
+use Rattle.std.proofs.lemmas.List.Elements.{All-weaker, All-contains, All-head, All-tail, Decides-contains}
 use Rattle.std.proofs.lemmas.Slice.Eq.{bytes_eq-Decides}
 use Rattle.std.proofs.lemmas.Bool.{and_parts, leb-true, le-leb, ltb-true, not-true, false≢true}
 use Rattle.std.proofs.lemmas.Bool.Decides.{Decides-and, Decides-below_and, Decides-by_and, Decides-by_or, Decides-at, Decides-eqb, not_from_Decides}
-use Rattle.terms.specs.Words.{Move, Moves, start_mark, end_mark}
+use Rattle.terms.specs.Words.{Move, Moves}
 use Rattle.tree_laws.specs.declared.Node.{Node}
 use Rattle.tree_laws.specs.declared.Node.TheVariants.{Skip}
 use Rattle.tree_laws.specs.Checked.{is_move, is_proper}
