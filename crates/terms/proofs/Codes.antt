@@ -16,12 +16,6 @@ abbrev pub Positive : ℕ → List ℕ → Type 0
 Positive b ds = All (λ d. (1 ≤ d) × (d < b)) ds
 
 module _ (n : ℕ) (few : n ≤ 12) where
-  pub digit_start : digit n start_mark ≡ n + 1
-  digit_start = refl
-
-  pub digit_end : digit n end_mark ≡ n + 2
-  digit_end = refl
-
   pub digit_move : (x : ℕ) → Move n x → digit n x ≡ x
   digit_move x m = rw (ne_eqb x start_mark (λ e. omega arith), ne_eqb x end_mark (λ e. omega arith))
 
