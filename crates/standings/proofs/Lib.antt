@@ -1,4 +1,3 @@
 pub mod Closures
 pub mod Masks
-pub mod Questions
 pub mod SubWords

@@ -1,36 +1,41 @@
 -- The parts of a word of moves that its standing is worked out from are words too.
-use Rattle.std.proofs.Common.{ℕ, ◌-◌, ◌≤◌, List, [], length, take, drop, inl, arith}
+use Rattle.std.proofs.Common.{◌≡◌, ℕ, ◌-◌, List, [], take, drop, inl, ap, ◌∙◌, subst, arith}
+use Rattle.std.specs.Prelude.{slice_range}
 use Rattle.std.proofs.lemmas.List.Elements.{All-drop, All-nil, All-take, All-weaker}
 use Rattle.std.proofs.lemmas.List.{length-take, length-drop}
 use Rattle.terms.specs.Codes.{Item, Word}
-use Rattle.terms.specs.Words.{Move, Moves}
+use Rattle.terms.specs.Words.{Move}
+use Rattle.windows.specs.declared.alphabet.Alphabet.{Alphabet}
 use Rattle.tree_laws.specs.Selections.{picked, left_out}
-use Rattle.standings.specs.Questions.{Ready}
+use Rattle.racks.specs.Views.{View}
+use Rattle.standings.specs.Rows.{RowRead, ShortMoves, rows_in}
 use Rattle.standings.proofs.Masks.{all_picked, all_left, length_picked, length_left}
 
-module _ {S : Type 0} {n k : ℕ} {u : List ℕ} (ready : Ready S n k u) where
-  part : (w : List ℕ) → Moves n w → length w ≤ length u → Word n k w
-  part w moves short = record { items = All-weaker (Move n) (Item n) (λ x move. inl move) w moves; short = omega (arith, ready.short) }
+module _ (a : Alphabet) (u : List ℕ) (of : ShortMoves a u) where
+  pub whole_word : Word a.moves a.order u
+  whole_word = record { items = All-weaker (Move a.moves) (Item a.moves) (λ x move. inl move) u of.moves; short = of.short }
 
-  pub whole_word : Word n k u
-  whole_word = part u ready.moves (omega arith)
+  pub empty_part : ShortMoves a []
+  empty_part = record { moves = All-nil (Move a.moves); short = omega arith }
 
-  pub empty_word : Word n k []
-  empty_word = part [] (All-nil (Move n)) (omega arith)
+  pub front_part : (j : ℕ) → ShortMoves a (take j u)
+  front_part j = record { moves = All-take (Move a.moves) j u of.moves; short = omega (arith, length-take j u, of.short) }
 
-  pub front_word : (j : ℕ) → Word n k (take j u)
-  front_word j = part (take j u) (All-take (Move n) j u ready.moves) (omega (arith, length-take j u))
+  pub back_part : (j : ℕ) → ShortMoves a (drop j u)
+  back_part j = record { moves = All-drop (Move a.moves) j u of.moves; short = omega (arith, length-drop j u, of.short) }
 
-  pub back_word : (j : ℕ) → Word n k (drop j u)
-  back_word j = part (drop j u) (All-drop (Move n) j u ready.moves) (omega (arith, length-drop j u))
+  pub piece_part : (i j : ℕ) → ShortMoves a (slice_range u i j)
+  piece_part i j =
+      record { moves = All-take (Move a.moves) (j - i) (drop i u) (back_part i).moves; short = omega (arith, length-take (j - i) (drop i u), (back_part i).short) }
 
-  pub piece_word : (i j : ℕ) → Word n k (take (j - i) (drop i u))
-  piece_word i j =
-      part (take (j - i) (drop i u)) (All-take (Move n) (j - i) (drop i u) (All-drop (Move n) i u ready.moves))
-      (omega (arith, length-take (j - i) (drop i u), length-drop i u))
+  pub picked_part : (m : ℕ) → ShortMoves a (picked m u)
+  picked_part m = record { moves = all_picked (Move a.moves) m u of.moves; short = omega (arith, length_picked m u, of.short) }
 
-  pub picked_word : (m : ℕ) → Word n k (picked m u)
-  picked_word m = part (picked m u) (all_picked (Move n) m u ready.moves) (length_picked m u)
+  pub left_part : (m : ℕ) → ShortMoves a (left_out m u)
+  left_part m = record { moves = all_left (Move a.moves) m u of.moves; short = omega (arith, length_left m u, of.short) }
 
-  pub left_word : (m : ℕ) → Word n k (left_out m u)
-  left_word m = part (left_out m u) (all_left (Move n) m u ready.moves) (length_left m u)
+-- the row of a word of moves, read of the list x when the rack meant the same as at first
+pub row_is : {a : Alphabet} {x u : List ℕ} {now first : View} {node r : ℕ} → ShortMoves a u → x ≡ u → now ≡ first → RowRead a.moves a.order now.number node x r → r ≡ rows_in a first node u
+row_is {a} {u = u} {now = now} {node = node} {r = r} of word same read =
+    let found = subst (λ w. RowRead a.moves a.order now.number node w r) word read in
+    found.number (whole_word a u of) ∙ ap (λ (v : View). rows_in a v node u) same

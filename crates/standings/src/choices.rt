@@ -1,6 +1,6 @@
 // The routes of either child.
 ghost use Rattle.std.specs.Prelude.{◌≡◌, bit_or};
-ghost use Rattle.standings.specs.Questions.{Asked};
+ghost use Rattle.standings.specs.Rows.{ShortMoves, rows_in};
 
 use crate::rows::row;
 use racks::Rack;
@@ -14,7 +14,9 @@ pub(crate) fn choice<R: Rack>(
     second: u8,
     word: &[u8],
 ) -> u32
-    ensures { Asked R.view R.sound R.unused rack.old rack.new alphabet.now word.now (λ rows. result ≡ bit_or (rows first word.now) (rows second word.now)) }
+    requires { ShortMoves alphabet.now word.now }
+    ensures answer { result ≡ bit_or (rows_in alphabet.now (R.view rack.old) first word.now) (rows_in alphabet.now (R.view rack.old) second word.now) }
+    ensures unaltered { R.view rack.new ≡ R.view rack.old }
 {
     row(alphabet, rack, first, word) | row(alphabet, rack, second, word)
 }

@@ -2,7 +2,7 @@
 ghost use Rattle.std.specs.Prelude.{◌≡◌, ◌+◌, ◌-◌, ◌≤◌, length, take, if◌then◌else◌, bit_and, slice_index, slice_range};
 ghost use Rattle.tree_laws.specs.Boundaries.{next_a, next_b};
 ghost use Rattle.tree_laws.specs.Computed.{has, ors, fresh_start, state_bit, rest_bits, run_standing, loop_standing};
-ghost use Rattle.standings.specs.Questions.{Asked};
+ghost use Rattle.standings.specs.Rows.{ShortMoves, rows_in};
 
 use crate::choices::choice;
 use crate::rows::{BEGINS, CONTAINED, ENDS, WHOLE, row};
@@ -26,9 +26,11 @@ fn arrived<R: Rack>(
     end: usize,
     states: &[u32],
 ) -> u32
+    requires word { ShortMoves alphabet.now word.now }
     requires within_word { end ≤ length word.now }
     requires within_states { end ≤ length states.now }
-    ensures { Asked R.view R.sound R.unused rack.old rack.new alphabet.now word.now (λ rows. result ≡ ors (λ i. bit_and (slice_index states.now i) (rows child (slice_range word.now i end))) end) }
+    ensures answer { result ≡ ors (λ i. bit_and (slice_index states.now i) (rows_in alphabet.now (R.view rack.old) child (slice_range word.now i end))) end }
+    ensures unaltered { R.view rack.new ≡ R.view rack.old }
 {
     let mut bits = 0;
     for i in 0..end {
@@ -54,8 +56,10 @@ fn start<R: Rack>(
     word: &[u8],
     end: usize,
 ) -> u32
-    requires { end ≤ length word.now }
-    ensures { Asked R.view R.sound R.unused rack.old rack.new alphabet.now word.now (λ rows. result ≡ (if middle then (if has (rows child (take end word.now)) 4 then 8 else 0) else fresh)) }
+    requires word { ShortMoves alphabet.now word.now }
+    requires within_word { end ≤ length word.now }
+    ensures answer { result ≡ (if middle then (if has (rows_in alphabet.now (R.view rack.old) child (take end word.now)) 4 then 8 else 0) else fresh) }
+    ensures unaltered { R.view rack.new ≡ R.view rack.old }
 {
     if !middle {
         return fresh;
@@ -80,10 +84,12 @@ fn reached<R: Rack>(
     a_next: &[u32],
     b_next: &[u32],
 ) -> (u32, u32)
+    requires word { ShortMoves alphabet.now word.now }
     requires within_word { end ≤ length word.now }
     requires within_a { end ≤ length a_next.now }
     requires within_b { end ≤ length b_next.now }
-    ensures { Asked R.view R.sound R.unused rack.old rack.new alphabet.now word.now (λ rows. (result.0 ≡ state_bit turns.middle (rows turns.first) (rows turns.second) word.now (a_next.now, b_next.now) end next_a) × (result.1 ≡ state_bit turns.middle (rows turns.first) (rows turns.second) word.now (a_next.now, b_next.now) end next_b)) }
+    ensures answer { (result.0 ≡ state_bit turns.middle (rows_in alphabet.now (R.view rack.old) turns.first) (rows_in alphabet.now (R.view rack.old) turns.second) word.now (a_next.now, b_next.now) end next_a) × (result.1 ≡ state_bit turns.middle (rows_in alphabet.now (R.view rack.old) turns.first) (rows_in alphabet.now (R.view rack.old) turns.second) word.now (a_next.now, b_next.now) end next_b) }
+    ensures unaltered { R.view rack.new ≡ R.view rack.old }
 {
     let fresh = fresh_start(end);
     let a = start(alphabet, rack, turns.middle, fresh, turns.second, word, end)
@@ -106,10 +112,11 @@ fn rests<R: Rack>(
     a_next: &[u32],
     b_next: &[u32],
 ) -> u32
-    requires short { length word.now ≤ 5 }
+    requires word { ShortMoves alphabet.now word.now }
     requires long_a { length a_next.now ≡ 6 }
     requires long_b { length b_next.now ≡ 6 }
-    ensures { Asked R.view R.sound R.unused rack.old rack.new alphabet.now word.now (λ rows. result ≡ ors (rest_bits (rows turns.first) (rows turns.second) word.now (a_next.now, b_next.now)) (length word.now + 1)) }
+    ensures answer { result ≡ ors (rest_bits (rows_in alphabet.now (R.view rack.old) turns.first) (rows_in alphabet.now (R.view rack.old) turns.second) word.now (a_next.now, b_next.now)) (length word.now + 1) }
+    ensures unaltered { R.view rack.new ≡ R.view rack.old }
 {
     let mut bits = 0;
     for j in 0..word.len() + 1 {
@@ -122,8 +129,9 @@ fn rests<R: Rack>(
 
 // From the start or the middle of the loop: whether the word may end the loop, and whether it may stop before the end.
 fn run<R: Rack>(alphabet: &Alphabet, rack: &mut R, turns: Turns, word: &[u8]) -> u32
-    requires { length word.now ≤ 5 }
-    ensures { Asked R.view R.sound R.unused rack.old rack.new alphabet.now word.now (λ rows. result ≡ run_standing turns.middle (rows turns.first) (rows turns.second) word.now) }
+    requires { ShortMoves alphabet.now word.now }
+    ensures answer { result ≡ run_standing turns.middle (rows_in alphabet.now (R.view rack.old) turns.first) (rows_in alphabet.now (R.view rack.old) turns.second) word.now }
+    ensures unaltered { R.view rack.new ≡ R.view rack.old }
 {
     let mut a_next = [0; 6];
     let mut b_next = [0; 6];
@@ -144,8 +152,9 @@ pub(crate) fn repeat<R: Rack>(
     second: u8,
     word: &[u8],
 ) -> u32
-    requires { length word.now ≤ 5 }
-    ensures { Asked R.view R.sound R.unused rack.old rack.new alphabet.now word.now (λ rows. result ≡ loop_standing (rows first) (rows second) word.now) }
+    requires { ShortMoves alphabet.now word.now }
+    ensures answer { result ≡ loop_standing (rows_in alphabet.now (R.view rack.old) first) (rows_in alphabet.now (R.view rack.old) second) word.now }
+    ensures unaltered { R.view rack.new ≡ R.view rack.old }
 {
     let mut turns = Turns {
         first,

@@ -2,8 +2,7 @@
 ghost use Rattle.std.specs.Prelude.{◌≡◌, ◌<◌, ◌≤◌, length};
 ghost use Rattle.tree_laws.specs.Computed.{standing_of};
 ghost use Rattle.terms.specs.Words.{Moves};
-ghost use Rattle.standings.specs.Questions.{Asked, Kept, Ready};
-ghost use Rattle.standings.specs.Rows.{first_child, second_child, standing_by};
+ghost use Rattle.standings.specs.Rows.{ShortMoves, rows_in, first_child, second_child, standing_by};
 
 use crate::choices::choice;
 use crate::leaves::{single, skip};
@@ -16,8 +15,9 @@ use windows::Alphabet;
 
 // Each kind of node in its own way.
 fn by_kind<R: Rack>(alphabet: &Alphabet, node: Node, rack: &mut R, word: &[u8]) -> u32
-    requires { length word.now ≤ 5 }
-    ensures { Asked R.view R.sound R.unused rack.old rack.new alphabet.now word.now (λ rows. result ≡ standing_of node (rows (first_child node)) (rows (second_child node)) word.now) }
+    requires { ShortMoves alphabet.now word.now }
+    ensures answer { result ≡ standing_of node (rows_in alphabet.now (R.view rack.old) (first_child node)) (rows_in alphabet.now (R.view rack.old) (second_child node)) word.now }
+    ensures unaltered { R.view rack.new ≡ R.view rack.old }
 {
     match node {
         Node::Skip => skip(word),
@@ -31,10 +31,10 @@ fn by_kind<R: Rack>(alphabet: &Alphabet, node: Node, rack: &mut R, word: &[u8]) 
 
 // The standing of the word at the node by the rows of the node's children, 0 for what is no word of at most k moves.
 pub fn standing<R: Rack>(alphabet: &Alphabet, node: Node, rack: &mut R, word: &[u8]) -> u32
-    ensures answer { Ready (R.sound rack.old) alphabet.now.moves alphabet.now.order word.now → result ≡ standing_by alphabet.now.moves alphabet.now.order (R.view rack.old).number node word.now }
+    ensures answer { Moves alphabet.now.moves word.now → length word.now ≤ alphabet.now.order → result ≡ standing_by alphabet.now.moves alphabet.now.order (R.view rack.old).number node word.now }
     ensures too_long { alphabet.now.order < length word.now → result ≡ 0 }
     ensures other_items { (Moves alphabet.now.moves word.now → ⊥) → result ≡ 0 }
-    ensures kept { Kept R.view R.sound R.unused rack.old rack.new }
+    ensures unaltered { R.view rack.new ≡ R.view rack.old }
 {
     if word.len() > alphabet.order() || !alphabet.are_moves(word) {
         return 0;

@@ -1,7 +1,7 @@
 // Every interleaving of a route of the first child with one of the second.
 ghost use Rattle.std.specs.Prelude.{◌≡◌, ◌≤◌, length};
 ghost use Rattle.tree_laws.specs.Computed.{parallel_standing};
-ghost use Rattle.standings.specs.Questions.{Asked};
+ghost use Rattle.standings.specs.Rows.{ShortMoves, rows_in};
 
 use crate::rows::row;
 use crate::splits::split;
@@ -16,8 +16,9 @@ pub(crate) fn parallel<R: Rack>(
     second: u8,
     word: &[u8],
 ) -> u32
-    requires { length word.now ≤ 5 }
-    ensures { Asked R.view R.sound R.unused rack.old rack.new alphabet.now word.now (λ rows. result ≡ parallel_standing (rows first) (rows second) word.now) }
+    requires { ShortMoves alphabet.now word.now }
+    ensures answer { result ≡ parallel_standing (rows_in alphabet.now (R.view rack.old) first) (rows_in alphabet.now (R.view rack.old) second) word.now }
+    ensures unaltered { R.view rack.new ≡ R.view rack.old }
 {
     let mut bits = 0;
     for mask in 0..1 << word.len() {

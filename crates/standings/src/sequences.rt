@@ -1,7 +1,7 @@
 // A route of the first child, then one of the second.
 ghost use Rattle.std.specs.Prelude.{◌≡◌, ◌+◌, ◌≤◌, length};
 ghost use Rattle.tree_laws.specs.Computed.{ors, front_bits, back_bits, cut_bits, sequence_standing};
-ghost use Rattle.standings.specs.Questions.{Asked};
+ghost use Rattle.standings.specs.Rows.{ShortMoves, rows_in};
 
 use crate::rows::{BEGINS, CONTAINED, ENDS, WHOLE, row};
 use racks::Rack;
@@ -25,8 +25,9 @@ fn back(standing: u32) -> u32
 
 // The word cut in two at each place, the front in the first child and the rest in the second.
 fn cuts<R: Rack>(alphabet: &Alphabet, rack: &mut R, first: u8, second: u8, word: &[u8]) -> u32
-    requires { length word.now ≤ 5 }
-    ensures { Asked R.view R.sound R.unused rack.old rack.new alphabet.now word.now (λ rows. result ≡ ors (cut_bits (rows first) (rows second) word.now) (length word.now + 1)) }
+    requires { ShortMoves alphabet.now word.now }
+    ensures answer { result ≡ ors (cut_bits (rows_in alphabet.now (R.view rack.old) first) (rows_in alphabet.now (R.view rack.old) second) word.now) (length word.now + 1) }
+    ensures unaltered { R.view rack.new ≡ R.view rack.old }
 {
     let mut bits = 0;
     for j in 0..word.len() + 1 {
@@ -45,8 +46,9 @@ pub(crate) fn sequence<R: Rack>(
     second: u8,
     word: &[u8],
 ) -> u32
-    requires { length word.now ≤ 5 }
-    ensures { Asked R.view R.sound R.unused rack.old rack.new alphabet.now word.now (λ rows. result ≡ sequence_standing (rows first) (rows second) word.now) }
+    requires { ShortMoves alphabet.now word.now }
+    ensures answer { result ≡ sequence_standing (rows_in alphabet.now (R.view rack.old) first) (rows_in alphabet.now (R.view rack.old) second) word.now }
+    ensures unaltered { R.view rack.new ≡ R.view rack.old }
 {
     // A beginning of the first child is one of the sequence, and an end of the second its end.
     let before = row(alphabet, rack, first, word) & (CONTAINED | BEGINS);

@@ -1,24 +1,30 @@
-use Rattle.std.proofs.Common.{◌≡◌, ◌+◌, ◌/◌, length, get_or, drop, ap, ◌∙◌, arith}
-use lib.Bits.{bit_and, bit_or}
+use Rattle.std.proofs.Common.{◌≡◌, ◌+◌, ◌/◌, length, ◌∙◌, arith}
+use Rattle.std.specs.Prelude.{bit_and, bit_or, slice_index}
 use Rattle.std.proofs.lemmas.List.{take_rest}
-use Rattle.tree_laws.specs.Computed.{ors, rest_bits}
-use Rattle.standings.proofs.Questions.{asked_row, asked_two, asked_more, asked_so}
-use Rattle.standings.proofs.SubWords.{back_word}
+use Rattle.tree_laws.specs.Computed.{rest_bits}
+use Rattle.tree_laws.proofs.Bits.{ors_more}
+use Rattle.standings.specs.Rows.{rows_in}
+use Rattle.standings.proofs.SubWords.{back_part, row_is}
 use Rattle.standings.proofs.loops.rests.Goals as goal
 
 pub loop-j-preserved : goal.loop-j-preserved
 loop-j-preserved g c =
+    let a = c.args.alphabet.now in
+    let rack = g.R.Rack.view c.args.rack.now in
     let u = c.args.word.now in
     let na = c.args.a_next.now in
     let nb = c.args.b_next.now in
     let j = c.loop-j.j in
-    let one = asked_row (drop j u) (take_rest u j) (λ ready. back_word ready j) c.row.ensures.answer c.row.ensures.kept in
-    let two = asked_row (drop j u) (take_rest u j) (λ ready. back_word ready j) c.row-in-loop-j.ensures.answer c.row-in-loop-j.ensures.kept in
-    asked_more (λ rows. rest_bits (rows c.args.turns.first) (rows c.args.turns.second) u (na, nb)) c.loop-j.invariant
-    (asked_two (λ x y. bit_or (bit_and (get_or na j 0 / 4) x) (bit_and (get_or nb j 0 / 4) y)) one two)
+    let same = c.row.ensures.unaltered ∙ c.loop-j.invariant.0 in
+    let part = back_part a u c.requires.word j in
+    let x = row_is part (take_rest u j) c.loop-j.invariant.0 c.row.ensures.answer in
+    let y = row_is part (take_rest u j) same c.row-in-loop-j.ensures.answer in (
+      c.row-in-loop-j.ensures.unaltered ∙ same,
+      ors_more (rest_bits (rows_in a rack c.args.turns.first) (rows_in a rack c.args.turns.second) u (na, nb)) j _ _ c.loop-j.invariant.1
+          (λ i. bit_or (bit_and (slice_index na j / 4) (x i)) (bit_and (slice_index nb j / 4) (y i))),
+    )
 
-pub returns : goal.returns
-returns g c =
-    let u = c.args.word.now in
-    let end : c.loop-j.j ≡ length u + 1 = omega arith in
-    asked_so c.loop-j.invariant (λ rows e. e ∙ ap (ors (rest_bits (rows c.args.turns.first) (rows c.args.turns.second) u (c.args.a_next.now, c.args.b_next.now))) end)
+pub returns-clause-answer : goal.returns-clause-answer
+returns-clause-answer g c =
+    let end : c.loop-j.j ≡ length c.args.word.now + 1 = omega arith in
+    rw end at c.loop-j.invariant.1
