@@ -1,12 +1,12 @@
 -- What one step of a loop of this crate keeps.
-use Rattle.std.proofs.Common.{◌≡◌, ℕ, suc, ◌+◌, ◌-◌, ◌<◌, ◌≤◌, Bool, true, false, cond, not, List, [], ◌∷◌, ◌++◌, map, length, get_or, take, drop, set, is_some, Some, None, Decides, count_by, Option, sym, refl, ap, ◌∙◌, subst, arith, length-append, MatchOption}
+use Rattle.std.proofs.Common.{◌≡◌, ℕ, suc, zero, ◌+◌, ◌-◌, ◌<◌, ◌≤◌, min, Bool, true, false, not, List, [], ◌∷◌, ◌++◌, map, length, get_or, take, drop, is_some, Some, None, Decides, Option, sym, refl, ap, ◌∙◌, subst, ⊎_elim, add-one, append_assoc, arith, length-append, MatchOption}
 use Rattle.std.specs.List.{range_with_len}
-use Rattle.std.proofs.lemmas.List.FromFn.{map-range_with_len_more}
 use Rattle.std.proofs.lemmas.List.Elements.{All-get_or}
-use Rattle.std.proofs.lemmas.Bool.{true≢false}
-use Rattle.std.proofs.lemmas.List.{take-append-le, take_more_set, map_more, map_push}
-use Rattle.std.proofs.lemmas.List.Sums.{sum_by_push}
-use Rattle.terms.specs.Words.{Move, Moves, marked, run, FirstWrong}
+use Rattle.std.proofs.lemmas.Bool.{true≢false, cases_lt}
+use Rattle.std.proofs.lemmas.List.{take_all, map_push, length-map, length_push, length-take-le}
+use Rattle.terms.specs.Words.{Move, Moves, marked, start_mark, end_mark, run, runs, windows, FirstWrong}
+use Rattle.terms.proofs.Shapes.{length_marked}
+use Rattle.terms.proofs.Windows.{windows_short, windows_long}
 use Rattle.windows.specs.Values.{word_items}
 use Rattle.windows.specs.declared.values.Word.{Word}
 
@@ -21,22 +21,45 @@ first_wrong_at n w i inside before here =
       right_before = subst (λ j. Moves n (take j w)) (sym back) before;
     }
 
--- both marks around the moves w, in a buffer whose part between the first and the last item begins with w
-pub marks_around : (inner w : List ℕ) (m : ℕ) → length w ≡ m → take (length w) inner ≡ w → m ≤ length inner → take (m + 2) (set (43 ∷ (inner ++ (0 ∷ []))) (m + 1) 45) ≡ marked w
-marks_around inner w m long front fits =
-    let buffer = 43 ∷ (inner ++ (0 ∷ [])) in
-    let two : m + 2 ≡ m + 1 + 1 = omega arith in
-    let one : m + 1 ≡ suc m = omega arith in
-    let inside : take m (inner ++ (0 ∷ [])) ≡ w = take-append-le m inner (0 ∷ []) fits ∙ ap (λ i. take i inner) (sym long) ∙ front in
-    let before : take (m + 1) buffer ≡ 43 ∷ w = ap (λ i. take i buffer) one ∙ ap (λ l. 43 ∷ l) inside in
-    ap (λ i. take i (set buffer (m + 1) 45)) two ∙ take_more_set buffer (m + 1) 45 (omega (arith, length-append inner (0 ∷ []))) ∙ ap (λ l. l ++ (45 ∷ [])) before
+-- both marks around the moves w, put one behind the other where there is room
+pub marks_around : (w a b c : List ℕ) → length w ≤ 32 → a ≡ take 34 (start_mark ∷ []) → b ≡ take 34 (a ++ w) → c ≡ take 34 (b ++ (end_mark ∷ [])) → c ≡ marked w
+marks_around w a b c short first second third =
+    let one : a ≡ start_mark ∷ [] = first ∙ take_all 34 (start_mark ∷ []) (omega arith) in
+    let two : b ≡ start_mark ∷ w = second ∙ ap (λ l. take 34 (l ++ w)) one ∙ take_all 34 (start_mark ∷ w) (omega arith) in
+    third ∙ ap (λ l. take 34 (l ++ (end_mark ∷ []))) two ∙ take_all 34 (marked w) (omega (arith, length_marked w))
 
--- one more window written, at the place p
-pub window_more : (ws : List Word) (items : List ℕ) (k p : ℕ) (w : Word) → p < length ws → map word_items (take p ws) ≡ map (run k items) (range_with_len 0 p) → word_items w ≡ take (p + k - p) (drop p items) → map word_items (take (p + 1) (set ws p w)) ≡ map (run k items) (range_with_len 0 (p + 1))
-window_more ws items k p w inside before here =
-    let size : p + k - p ≡ k = omega arith in
-    let same : word_items w ≡ run k items p = here ∙ ap (λ j. take j (drop p items)) size in
-    ap (map word_items) (take_more_set ws p w inside) ∙ map_push word_items (take p ws) w ∙ (λ i. before i ++ (same i ∷ [])) ∙ sym (map-range_with_len_more (run k items) 0 p p (omega arith))
+-- the runs behind the first item are the runs of the rest
+runs_shift : (k x : ℕ) (w : List ℕ) (a m : ℕ) → map (run k (x ∷ w)) (range_with_len (a + 1) m) ≡ map (run k w) (range_with_len a m)
+runs_shift k x w a zero = refl
+runs_shift k x w a (suc m) = let here : run k (x ∷ w) (a + 1) ≡ run k w a = ap (λ i. take k (drop i (x ∷ w))) (add-one a) in (λ i. here i ∷ runs_shift k x w (a + 1) m i)
+
+pub runs_more : (k : ℕ) (w : List ℕ) → 1 ≤ k → k ≤ length w → runs k w ≡ take k w ∷ runs k (drop 1 w)
+runs_more k [] some long = absurd (omega arith)
+runs_more k (x ∷ w) some long =
+    let many : length (x ∷ w) + 1 - k ≡ suc (length w + 1 - k) = omega arith in
+    ap (λ m. map (run k (x ∷ w)) (range_with_len 0 m)) many ∙ ap (λ l. take k (x ∷ w) ∷ l) (runs_shift k x w 0 (length w + 1 - k))
+
+-- a list has one run of its own length, so its windows are runs however long it is
+pub windows_runs : (k : ℕ) (w : List ℕ) → windows k w ≡ runs (min k (length w)) w
+windows_runs k w =
+    ⊎_elim
+    (λ long. let least : k ≡ min k (length w) = omega arith in windows_long k w long ∙ ap (λ i. runs i w) least)
+    (λ short.
+    let one : length w + 1 - length w ≡ 1 = omega arith in
+    let least : min k (length w) ≡ length w = omega arith in
+    let whole : runs (length w) w ≡ w ∷ [] = ap (λ m. map (run (length w) w) (range_with_len 0 m)) one ∙ ap (λ u. u ∷ []) (take_all (length w) w (omega arith)) in
+    windows_short k w short ∙ sym (ap (λ i. runs i w) least ∙ whole))
+    (cases_lt k (length w))
+
+-- one window more written, where there is room
+pub window_more : (k : ℕ) (all : List (List ℕ)) (rest run : List ℕ) (ws more : List Word) (w : Word) → 2 ≤ k → k ≤ 5 → length all ≤ 33 → all ≡ map word_items ws ++ runs k rest → k ≤ length rest → run ≡ take k rest → word_items w ≡ take 5 run → more ≡ take 33 (ws ++ (w ∷ [])) → all ≡ map word_items more ++ runs k (drop 1 rest)
+window_more k all rest run ws more w some low few split long is items pushed =
+    let step = runs_more k rest (omega arith) long in
+    let size : length run ≡ k = ap length is ∙ length-take-le k rest long in
+    let same : word_items w ≡ take k rest = items ∙ take_all 5 run (omega (arith, size)) ∙ is in
+    let count = ap length split ∙ length-append (map word_items ws) (runs k rest) in
+    let whole : more ≡ ws ++ (w ∷ []) = pushed ∙ take_all 33 (ws ++ (w ∷ [])) (omega (arith, few, count, ap length step, length-map ws word_items, length_push ws w)) in
+    split ∙ ap (λ l. map word_items ws ++ l) (step ∙ ap (λ u. u ∷ runs k (drop 1 rest)) (sym same)) ∙ sym (append_assoc (map word_items ws) (word_items w ∷ []) (runs k (drop 1 rest))) ∙ ap (λ l. l ++ runs k (drop 1 rest)) (sym (ap (map word_items) whole ∙ map_push word_items ws w))
 
 -- that no item is wrong is a test for moves
 pub none_wrong : (n : ℕ) (w : List ℕ) (found : Option ℕ) (r : Bool) → MatchOption found (Moves n w) (FirstWrong n w) → is_some found ≡ not r → Decides r (Moves n w)
@@ -44,8 +67,3 @@ none_wrong n w None true moves e = (λ _. moves, λ _. refl)
 none_wrong n w None false moves e = absurd (true≢false (sym e))
 none_wrong n w (Some p) true wrong e = absurd (true≢false e)
 none_wrong n w (Some p) false wrong e = (λ t. absurd (true≢false (sym t)), λ moves. absurd (wrong.wrong (All-get_or (Move n) w (p - 1) 0 (omega (arith, wrong.from_one, wrong.inside)) moves)))
-
--- one window more counted
-pub count_more : (ws : List Word) (i : ℕ) (w : Word) (p : List ℕ → Bool) → i < length ws → w ≡ get_or ws i w → count_by p (map word_items (take (i + 1) ws)) ≡ count_by p (map word_items (take i ws)) + cond (p (word_items w)) 1 0
-count_more ws i w p inside read =
-    ap (count_by p) (map_more word_items ws i w inside ∙ ap (λ x. map word_items (take i ws) ++ (word_items x ∷ [])) (sym read)) ∙ sum_by_push (λ x. cond (p x) 1 0) (map word_items (take i ws)) (word_items w)

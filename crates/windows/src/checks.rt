@@ -5,7 +5,7 @@ ghost use Rattle.windows.specs.Promises.{Opens, PlayRead, PlayRefused};
 
 use crate::alphabet::Alphabet;
 use crate::values::Play;
-use crate::words::fill;
+use fixed_vec::FixedVec;
 use terms::Refusal;
 
 // The place, counted from 1, of the first item outside 1 to n.
@@ -31,13 +31,13 @@ impl Alphabet {
     pub fn new(moves: u16, order: u16) -> Result<Alphabet, Refusal>
         ensures { Opens moves order result }
     {
-        if moves < 1 || moves > 12 || order < 2 || order > 5 {
-            return Err(Refusal::Shut);
+        match (moves, order) {
+            (1..=12, 2..=5) => Ok(Alphabet {
+                moves: moves as u8,
+                order: usize::from(order),
+            }),
+            _ => Err(Refusal::Shut),
         }
-        Ok(Alphabet {
-            moves: moves as u8,
-            order: order as usize,
-        })
     }
 
     pub fn moves(&self) -> u8
@@ -69,11 +69,8 @@ impl Alphabet {
         if let Some(place) = first_wrong(self.moves, moves) {
             return Err(Refusal::WrongMove { place });
         }
-        let mut buffer = [0; 32];
-        fill(&mut buffer, moves);
         Ok(Play {
-            moves: buffer,
-            len: moves.len(),
+            moves: FixedVec::from_slice(moves),
         })
     }
 }

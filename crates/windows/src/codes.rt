@@ -41,12 +41,8 @@ impl Alphabet {
         match item {
             START_MARK => Some(self.moves + 1),
             END_MARK => Some(self.moves + 2),
-            _ => {
-                if item == 0 || item > self.moves {
-                    return None;
-                }
-                Some(item)
-            }
+            1.. if item <= self.moves => Some(item),
+            _ => None,
         }
     }
 
@@ -60,9 +56,7 @@ impl Alphabet {
         let base = self.base();
         let mut code = 0;
         for item in word {
-            let Some(digit) = self.digit(*item) else {
-                return None;
-            };
+            let digit = self.digit(*item)?;
             code = code * base + u32::from(digit);
         }
         Some(code)
@@ -88,20 +82,16 @@ impl Alphabet {
     pub fn word(&self, code: u32) -> Option<Word>
         ensures { MatchOption result ((u : List ℕ) → IsWord self.now.moves self.now.order u → the_code self.now.moves u ≢ code) (λ w. IsWord self.now.moves self.now.order (word_items w) × (the_code self.now.moves (word_items w) ≡ code)) }
     {
-        let base = self.base();
-        let mut items = [0; 5];
-        // The word's end stands in `items` from here on; its lowest digit comes first.
-        let mut from = 5;
-        let mut rest = code;
-        while rest > 0 {
-            let digit = rest % base;
-            if digit == 0 || 5 - from >= self.order {
-                return None;
-            }
-            from -= 1;
-            items[from] = self.item(digit);
-            rest /= base;
+        if code == 0 {
+            return Some(Word::empty());
         }
-        Some(Word::of(&items[from..5]))
+        let base = self.base();
+        // The lowest digit is the last item's.
+        let front = self.word(code / base)?;
+        let digit = code % base;
+        if digit == 0 || front.items().len() >= self.order {
+            return None;
+        }
+        front.pushed(self.item(digit))
     }
 }
