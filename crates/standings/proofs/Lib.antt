@@ -1,3 +1,4 @@
-pub mod Closures
+pub mod Asked
+pub mod LoopStates
 pub mod Masks
 pub mod SubWords

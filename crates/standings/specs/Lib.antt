@@ -1,2 +1,3 @@
 pub mod Rows
-pub mod Buffers
+pub mod Children
+pub mod Loops

@@ -4,14 +4,25 @@ ghost use Rattle.tree_laws.specs.Computed.{standing_of};
 ghost use Rattle.terms.specs.Words.{Moves};
 ghost use Rattle.standings.specs.Rows.{ShortMoves, rows_in, first_child, second_child, standing_by};
 
-use crate::choices::choice;
+use crate::children::Children;
 use crate::leaves::{single, skip};
-use crate::loops::repeat;
-use crate::parallels::parallel;
-use crate::sequences::sequence;
 use racks::Rack;
 use tree_laws::Node;
 use windows::Alphabet;
+
+// The children of a node, 0 where it has none.
+fn children(node: Node) -> (u8, u8)
+    ensures first { result.0 ≡ first_child node }
+    ensures second { result.1 ≡ second_child node }
+{
+    match node {
+        Node::Skip | Node::Move(_) => (0, 0),
+        Node::Choice(first, second)
+        | Node::Sequence(first, second)
+        | Node::Loop(first, second)
+        | Node::Parallel(first, second) => (first, second),
+    }
+}
 
 // Each kind of node in its own way.
 fn by_kind<R: Rack>(alphabet: &Alphabet, node: Node, rack: &mut R, word: &[u8]) -> u32
@@ -19,13 +30,20 @@ fn by_kind<R: Rack>(alphabet: &Alphabet, node: Node, rack: &mut R, word: &[u8]) 
     ensures answer { result ≡ standing_of node (rows_in alphabet.now (R.view rack.old) (first_child node)) (rows_in alphabet.now (R.view rack.old) (second_child node)) word.now }
     ensures unaltered { R.view rack.new ≡ R.view rack.old }
 {
+    let (first, second) = children(node);
+    let mut children = Children {
+        alphabet,
+        rack,
+        first,
+        second,
+    };
     match node {
         Node::Skip => skip(word),
         Node::Move(only) => single(only, word),
-        Node::Choice(first, second) => choice(alphabet, rack, first, second, word),
-        Node::Sequence(first, second) => sequence(alphabet, rack, first, second, word),
-        Node::Loop(first, second) => repeat(alphabet, rack, first, second, word),
-        Node::Parallel(first, second) => parallel(alphabet, rack, first, second, word),
+        Node::Choice(..) => children.choice(word),
+        Node::Sequence(..) => children.sequence(word),
+        Node::Loop(..) => children.repeat(word),
+        Node::Parallel(..) => children.parallel(word),
     }
 }
 
