@@ -7,13 +7,15 @@ use Rattle.std.proofs.lemmas.Bool.{and_parts, leb-true, le-leb, ltb-true, not-tr
 use Rattle.std.proofs.lemmas.Bool.Decides.{Decides-and, Decides-below_and, Decides-by_and, Decides-by_or, Decides-at, Decides-eqb, not_from_Decides}
 use Rattle.terms.specs.Words.{Move, Moves, start_mark, end_mark}
 use Rattle.tree_laws.specs.declared.Node.{Node}
-use Rattle.tree_laws.specs.declared.Node.TheVariants.{Skip, Move as Single, Choice, Sequence, Loop, Parallel}
+use Rattle.tree_laws.specs.declared.Node.TheVariants.{Skip}
 use Rattle.tree_laws.specs.Checked.{is_move, is_proper}
+use Rattle.tree_laws.specs.Children.{first_child, second_child}
 use Rattle.tree_laws.specs.Computed.{has, standing_of}
 use Rattle.tree_laws.specs.Facts.{Playable, Standing}
-use Rattle.tree_laws.specs.Routes.{Lower, Proper, WellFormed}
-use Rattle.tree_laws.specs.Standings.{Children, Known}
+use Rattle.tree_laws.specs.Routes.{WellFormed}
+use Rattle.tree_laws.specs.Standings.{Known}
 use Rattle.tree_laws.proofs.Checked.{decides_proper}
+use Rattle.tree_laws.proofs.Children.{children_from}
 use Rattle.tree_laws.proofs.Computed.{computed_laws_lem}
 use Rattle.tree_laws.proofs.Nodes.{node_is}
 use Rattle.row_laws.specs.Rows.{ListsPlayable}
@@ -45,23 +47,6 @@ each_word_at n (suc k) f e (suc m ∷ u) moves short =
 
 -- ---- the standing of a word, through the nodes with lower numbers
 
-abbrev pub first_child : Node → ℕ
-first_child Skip = 0
-first_child (Single m) = 0
-first_child (Choice a b) = a
-first_child (Sequence a b) = a
-first_child (Loop a b) = a
-first_child (Parallel a b) = a
-
-abbrev pub second_child : Node → ℕ
-second_child Skip = 0
-second_child (Single m) = 0
-second_child (Choice a b) = b
-second_child (Sequence a b) = b
-second_child (Loop a b) = b
-second_child (Parallel a b) = b
-
--- at node v, if its number is at most the fuel
 abbrev pub standing : List Node → ℕ → ℕ → List ℕ → ℕ
 standing t zero v u = 0
 standing t (suc fuel) v u =
@@ -69,14 +54,6 @@ standing t (suc fuel) v u =
 
 abbrev pub root_standing : List Node → List ℕ → ℕ
 root_standing t u = standing t (length t) (length t) u
-
-children_from : (n v : ℕ) (P : ℕ → ℕ → Type 0) (x : Node) → Proper n v x → ((a : ℕ) → Lower v a → P a a) → Children x (P (first_child x)) (P (second_child x))
-children_from n v P Skip p below = tt
-children_from n v P (Single m) p below = tt
-children_from n v P (Choice a b) p below = (below a p.0, below b p.1)
-children_from n v P (Sequence a b) p below = (below a p.0, below b p.1)
-children_from n v P (Loop a b) p below = (below a p.0, below b p.1)
-children_from n v P (Parallel a b) p below = (below a p.0, below b p.1)
 
 standing_known : (n k : ℕ) (t : List Node) → WellFormed n t → (fuel v : ℕ) → v ≤ fuel → 1 ≤ v → v ≤ length t → Known n k t (standing t fuel v) v
 standing_known n k t wf zero v h low high = absurd (omega arith)

@@ -1,5 +1,5 @@
 -- Every refusal's number, and the details that come with it.
-use Rattle.std.specs.Prelude.{◌≡◌, ℕ, List, [], ◌∷◌}
+use Rattle.std.specs.Prelude.{◌≡◌, ℕ, List, [], ◌∷◌, ◌++◌, codes, decimal}
 use Rattle.terms.specs.declared.Refusal.{Refusal}
 use Rattle.terms.specs.declared.Refusal.TheVariants.{BeyondReach, NoRoom, Shut, NodeCount, WrongNode, ModelReach, ModelRoom, TooManyMoves, WrongMove}
 
@@ -30,3 +30,15 @@ details (WrongMove place) = place ∷ []
 pub record Says (e : Refusal) (m : ℕ) (ds : List ℕ) : Type 0 where
   pub numbered : number e ≡ m
   pub detailed : details e ≡ ds
+
+-- what a refusal prints: its number, and the reason with its details
+abbrev pub text : Refusal → List ℕ
+text BeyondReach = codes "refused: 1 (key beyond the reach)"
+text NoRoom = codes "refused: 2 (no room in the rack)"
+text Shut = codes "refused: 10 (the book is shut)"
+text NodeCount = codes "refused: 11 (no node, or more than 32)"
+text (WrongNode node field) = codes "refused: 12 (node " ++ decimal node ++ codes ", field " ++ decimal field ++ codes ")"
+text ModelReach = codes "refused: 13 (the model rack's reach is too low)"
+text ModelRoom = codes "refused: 14 (the model rack has too little room)"
+text TooManyMoves = codes "refused: 17 (more than 32 moves)"
+text (WrongMove place) = codes "refused: 18 (move " ++ decimal place ++ codes ")"

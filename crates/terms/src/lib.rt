@@ -1,8 +1,11 @@
 // The refusals of the route book, and the definitions that every crate above cites.
 #![tactic(auto)]
 
-ghost use Rattle.std.specs.Prelude.{◌≡◌};
-ghost use Rattle.terms.specs.Refusals.{number};
+ghost use Rattle.std.specs.Prelude.{◌≡◌, Some};
+ghost use Rattle.terms.specs.Refusals.{number, text};
+
+use std::error::Error;
+use std::fmt;
 
 // Why a call was refused. `number` is what a level tool reads; the details are the fields.
 #[derive(Clone, Copy, PartialEq, Eq, Debug)]
@@ -43,5 +46,50 @@ impl Refusal {
             Refusal::TooManyMoves => 17,
             Refusal::WrongMove { .. } => 18,
         }
+    }
+}
+
+impl fmt::Display for Refusal {
+    ghost output = { λ e. Some (text e) };
+
+    fn fmt<W: fmt::Write>(&self, f: &mut fmt::Formatter<W>) -> fmt::Result {
+        match self {
+            Refusal::BeyondReach => write!(f, "refused: 1 (key beyond the reach)"),
+            Refusal::NoRoom => write!(f, "refused: 2 (no room in the rack)"),
+            Refusal::Shut => write!(f, "refused: 10 (the book is shut)"),
+            Refusal::NodeCount => write!(f, "refused: 11 (no node, or more than 32)"),
+            Refusal::WrongNode { node, field } => {
+                write!(f, "refused: 12 (node {node}, field {field})")
+            }
+            Refusal::ModelReach => write!(f, "refused: 13 (the model rack's reach is too low)"),
+            Refusal::ModelRoom => write!(f, "refused: 14 (the model rack has too little room)"),
+            Refusal::TooManyMoves => write!(f, "refused: 17 (more than 32 moves)"),
+            Refusal::WrongMove { place } => write!(f, "refused: 18 (move {place})"),
+        }
+    }
+}
+
+impl Error for Refusal {}
+
+#[cfg(test)]
+mod tests {
+    use super::*;
+
+    #[test]
+    fn refusals_as_text(rt: HostRuntime) -> Result<(), std::test::Fail> {
+        let alloc = rt.alloc();
+        assert_eq!(rt;
+            format!(in alloc; "{}", Refusal::Shut)?.as_str(),
+            "refused: 10 (the book is shut)"
+        );
+        assert_eq!(rt;
+            format!(in alloc; "{}", Refusal::WrongNode { node: 3, field: 2 })?.as_str(),
+            "refused: 12 (node 3, field 2)"
+        );
+        assert_eq!(rt;
+            format!(in alloc; "{}", Refusal::WrongMove { place: 33 })?.as_str(),
+            "refused: 18 (move 33)"
+        );
+        Ok(())
     }
 }

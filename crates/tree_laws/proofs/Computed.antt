@@ -125,10 +125,10 @@ no_bit s m d = (
 pub bits_at : (t : List Node) (v : ℕ) (u : List ℕ) (s : ℕ) → Standing t v u s → BitsAt t v u s
 bits_at t v u s h =
     let r = right_from h in
-    let c : Decides (has s 1) (SomeContains t v u) = Decides-at _ _ (has_on s 0 (and_high s 1 0)) (fact_tells true true r) in
-    let b : Decides (has s 2) (SomeBegins t v u) = Decides-at _ _ (has_on s 1 (and_high s 1 1)) (fact_tells false true r) in
-    let e : Decides (has s 4) (SomeEnds t v u) = Decides-at _ _ (has_on s 2 (and_high s 1 2)) (fact_tells true false r) in
-    let w : Decides (has s 8) (Route t v u) = Decides-at _ _ (has_on s 3 (and_high s 1 3)) (fact_tells false false r) in
+    let c : Decides (has s 1) (SomeContains t v u) = Decides-at _ _ (has_on s 0) (fact_tells true true r) in
+    let b : Decides (has s 2) (SomeBegins t v u) = Decides-at _ _ (has_on s 1) (fact_tells false true r) in
+    let e : Decides (has s 4) (SomeEnds t v u) = Decides-at _ _ (has_on s 2) (fact_tells true false r) in
+    let w : Decides (has s 8) (Route t v u) = Decides-at _ _ (has_on s 3) (fact_tells false false r) in
     record {
       small = r.small;
       none = (

@@ -12,3 +12,4 @@ pub mod Computed
 pub mod Rows
 pub mod Arrays
 pub mod Checked
+pub mod Children

@@ -82,7 +82,7 @@ module _ {L : Turn → Language} {Ok : List ℕ → Type 0} (closed : Closed Ok)
   start_tells false j next_b h = (λ e. absurd (both_ways _ (on_none 3) e), λ s. absurd (turns_differ s.0))
   start_tells true j m h =
       let s = of_turn sa sb (other m) (take j u) in
-      Decides-at _ _ (on_cond (has s 4) 8 3 refl ∙ has_on s 2 (and_high s 1 2)) ((right (other m) (take j u) (closed.ok_take j u ok)).tells true false)
+      Decides-at _ _ (on_cond (has s 4) 8 3 refl ∙ has_on s 2) ((right (other m) (take j u) (closed.ok_take j u ok)).tells true false)
 
   module _ (f : Bool) where
     direct_tells : (j : ℕ) → j ≤ length u → ((i : ℕ) → i < j → (m : Turn) → Decides (on (at f i m) 3) (Reached L f m (take i u))) → (m : Turn) → Decides (on (direct_bit f sa sb u (upto f j) j m) 3) (Lately f j m)

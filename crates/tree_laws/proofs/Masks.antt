@@ -1,9 +1,10 @@
 -- An interleaving is a selection of positions by a mask.
 use Rattle.std.proofs.Common.{◌≡◌, ℕ, suc, ◌+◌, ◌*◌, ◌/◌, ◌%◌, ◌^◌, ◌<◌, Bool, true, false, cond, eqb, List, [], ◌∷◌, ◌++◌, length, get_or, take, sym, refl, ap, ◌∙◌, pow-suc, div-one, one-add, arith}
 use Rattle.std.proofs.lemmas.List.{take_more, length-take-le}
+use Rattle.std.proofs.lemmas.Nat.Bits.{bit_at_lowest, bit_at-suc}
 use Rattle.tree_laws.specs.Routes.{Interleaving, none, from_left, from_right}
 use Rattle.tree_laws.specs.Selections.{picked, left_out}
-use Rattle.tree_laws.proofs.Bits.{on, on_shift}
+use Rattle.tree_laws.proofs.Bits.{on}
 
 taken : {p q w : List ℕ} (x : ℕ) (c : Bool) → Interleaving p q w → Interleaving (cond c (x ∷ p) p) (cond c q (x ∷ q)) (x ∷ w)
 taken x true i = from_left i
@@ -41,45 +42,32 @@ selection (from_right {x = a} {w = w} i) =
 
 -- ---- one more item at the end, with its bit
 
-inside_cond : (c d : Bool) (x y : ℕ) (p : List ℕ) → cond c (x ∷ cond d (p ++ (y ∷ [])) p) (cond d (p ++ (y ∷ [])) p) ≡ cond d (cond c (x ∷ p) p ++ (y ∷ [])) (cond c (x ∷ p) p)
-inside_cond true true x y p = refl
-inside_cond true false x y p = refl
-inside_cond false true x y p = refl
-inside_cond false false x y p = refl
+-- the first item's bit is c, the last one's d
+both_ends : (c d : Bool) (x y : ℕ) (p q : List ℕ)
+    → (cond c (x ∷ cond d (p ++ (y ∷ [])) p) (cond d (p ++ (y ∷ [])) p) ≡ cond d (cond c (x ∷ p) p ++ (y ∷ [])) (cond c (x ∷ p) p))
+    × (cond c (cond d q (q ++ (y ∷ []))) (x ∷ cond d q (q ++ (y ∷ []))) ≡ cond d (cond c q (x ∷ q)) (cond c q (x ∷ q) ++ (y ∷ [])))
+both_ends true true x y p q = (refl, refl)
+both_ends true false x y p q = (refl, refl)
+both_ends false true x y p q = (refl, refl)
+both_ends false false x y p q = (refl, refl)
 
-outside_cond : (c d : Bool) (x y : ℕ) (p : List ℕ) → cond c (cond d p (p ++ (y ∷ []))) (x ∷ cond d p (p ++ (y ∷ []))) ≡ cond d (cond c p (x ∷ p)) (cond c p (x ∷ p) ++ (y ∷ []))
-outside_cond true true x y p = refl
-outside_cond true false x y p = refl
-outside_cond false true x y p = refl
-outside_cond false false x y p = refl
-
-on_half : (m i : ℕ) → on (m / 2) i ≡ on m (suc i)
-on_half m i = on_shift m 1 i ∙ ap (on m) (one-add i)
-
-on_first : (m : ℕ) → on m 0 ≡ eqb (m % 2) 1
-on_first m = ap (λ q. eqb (q % 2) 1) (div-one m)
-
-picked_push : (m : ℕ) (xs : List ℕ) (y : ℕ) → picked m (xs ++ (y ∷ [])) ≡ cond (on m (length xs)) (picked m xs ++ (y ∷ [])) (picked m xs)
-picked_push m [] y = ap (λ c. cond c (y ∷ []) []) (sym (on_first m))
-picked_push m (x ∷ xs) y =
-    let d = eqb (m % 2) 1 in
-    let rest = picked_push (m / 2) xs y ∙ ap (λ c. cond c (picked (m / 2) xs ++ (y ∷ [])) (picked (m / 2) xs)) (on_half m (length xs)) in
-    ap (λ l. cond d (x ∷ l) l) rest ∙ inside_cond d (on m (suc (length xs))) x y (picked (m / 2) xs)
-
-left_push : (m : ℕ) (xs : List ℕ) (y : ℕ) → left_out m (xs ++ (y ∷ [])) ≡ cond (on m (length xs)) (left_out m xs) (left_out m xs ++ (y ∷ []))
-left_push m [] y = ap (λ c. cond c [] (y ∷ [])) (sym (on_first m))
-left_push m (x ∷ xs) y =
-    let d = eqb (m % 2) 1 in
-    let rest = left_push (m / 2) xs y ∙ ap (λ c. cond c (left_out (m / 2) xs) (left_out (m / 2) xs ++ (y ∷ []))) (on_half m (length xs)) in
-    ap (λ l. cond d l (x ∷ l)) rest ∙ outside_cond d (on m (suc (length xs))) x y (left_out (m / 2) xs)
+pushed : (m : ℕ) (xs : List ℕ) (y : ℕ)
+    → (picked m (xs ++ (y ∷ [])) ≡ cond (on m (length xs)) (picked m xs ++ (y ∷ [])) (picked m xs))
+    × (left_out m (xs ++ (y ∷ [])) ≡ cond (on m (length xs)) (left_out m xs) (left_out m xs ++ (y ∷ [])))
+pushed m [] y = rw bit_at_lowest (refl, refl)
+pushed m (x ∷ xs) y =
+    let c = eqb (m % 2) 1 in
+    let rest = pushed (m / 2) xs y in
+    let ends = both_ends c (on (m / 2) (length xs)) x y (picked (m / 2) xs) (left_out (m / 2) xs) in
+    rw bit_at-suc (ap (λ l. cond c (x ∷ l) l) rest.0 ∙ ends.0, ap (λ l. cond c l (x ∷ l)) rest.1 ∙ ends.1)
 
 -- the step of a loop over the items
 pub picked_more : (m : ℕ) (u : List ℕ) (i d : ℕ) → i < length u → picked m (take (i + 1) u) ≡ cond (on m i) (picked m (take i u) ++ (get_or u i d ∷ [])) (picked m (take i u))
 picked_more m u i d h =
-    ap (picked m) (take_more u i d h) ∙ picked_push m (take i u) (get_or u i d)
+    ap (picked m) (take_more u i d h) ∙ (pushed m (take i u) (get_or u i d)).0
     ∙ ap (λ k. cond (on m k) (picked m (take i u) ++ (get_or u i d ∷ [])) (picked m (take i u))) (length-take-le i u (omega arith))
 
 pub left_more : (m : ℕ) (u : List ℕ) (i d : ℕ) → i < length u → left_out m (take (i + 1) u) ≡ cond (on m i) (left_out m (take i u)) (left_out m (take i u) ++ (get_or u i d ∷ []))
 left_more m u i d h =
-    ap (left_out m) (take_more u i d h) ∙ left_push m (take i u) (get_or u i d)
+    ap (left_out m) (take_more u i d h) ∙ (pushed m (take i u) (get_or u i d)).1
     ∙ ap (λ k. cond (on m k) (left_out m (take i u)) (left_out m (take i u) ++ (get_or u i d ∷ []))) (length-take-le i u (omega arith))

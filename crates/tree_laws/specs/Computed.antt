@@ -1,5 +1,5 @@
 -- The standing of a word at a node, worked out from the standings sa and sb of words at its two children.
-use Rattle.std.specs.Prelude.{ℕ, zero, suc, ◌+◌, ◌/◌, ◌^◌, Bool, true, false, cond, not, List, [], ◌∷◌, ◌++◌, length, take, drop, ◌==◌, bit_and, bit_or, slice_index, slice_range}
+use Rattle.std.specs.Prelude.{ℕ, zero, suc, ◌+◌, ◌/◌, ◌^◌, Bool, true, false, if◌then◌else◌, not, List, [], ◌∷◌, ◌++◌, length, take, drop, ◌==◌, bit_and, bit_or, slice_index, slice_range}
 use Rattle.tree_laws.specs.declared.Node.{Node}
 use Rattle.tree_laws.specs.declared.Node.TheVariants.{Skip, Move as Single, Choice, Sequence, Loop, Parallel}
 use Rattle.tree_laws.specs.Boundaries.{Turn, next_a, next_b, other}
@@ -20,7 +20,7 @@ skip_standing (x ∷ xs) = 0
 
 abbrev pub move_standing : ℕ → List ℕ → ℕ
 move_standing m [] = 7
-move_standing m (x ∷ []) = cond (x == m) 15 0
+move_standing m (x ∷ []) = if x == m then 15 else 0
 move_standing m (x ∷ y ∷ xs) = 0
 
 -- Of a word cut in two, s is the standing of the front at the first child: an end of a route gives the bits that
@@ -54,12 +54,12 @@ of_turn x y next_b = y
 
 -- the start of the loop
 abbrev pub fresh_start : ℕ → Turn → ℕ
-fresh_start j next_a = cond (j == 0) 8 0
+fresh_start j next_a = if j == 0 then 8 else 0
 fresh_start j next_b = 0
 
 -- a start in the middle of the loop: the front of u ends a route of the other child
 abbrev pub middle_start : (List ℕ → ℕ) → (List ℕ → ℕ) → List ℕ → ℕ → Turn → ℕ
-middle_start sa sb u j m = cond (has (of_turn sa sb (other m) (take j u)) 4) 8 0
+middle_start sa sb u j m = if has (of_turn sa sb (other m) (take j u)) 4 then 8 else 0
 
 abbrev pub start_bit : Bool → (List ℕ → ℕ) → (List ℕ → ℕ) → List ℕ → ℕ → Turn → ℕ
 start_bit false sa sb u j m = fresh_start j m

@@ -1,5 +1,5 @@
 -- What a word is at a node: contained in some route, the beginning of one, the end of one, or a route.
-use Rattle.std.specs.Prelude.{◌≡◌, ℕ, ◌+◌, Bool, cond, List, length, Decides}
+use Rattle.std.specs.Prelude.{◌≡◌, ℕ, ◌+◌, Bool, if◌then◌else◌, List, length, Decides}
 use Rattle.terms.specs.Words.{Contains, Begins, Ends, WindowOf, marked}
 use Rattle.tree_laws.specs.declared.Node.{Node}
 use Rattle.tree_laws.specs.Routes.{Route}
@@ -28,4 +28,4 @@ pub record Standing (t : List Node) (v : ℕ) (u : List ℕ) (s : ℕ) : Type 0 
   pub begins_tells : Decides begins (SomeBegins t v u)
   pub ends_tells : Decides ends (SomeEnds t v u)
   pub whole_tells : Decides whole (Route t v u)
-  pub sum : s ≡ cond contained 1 0 + cond begins 2 0 + cond ends 4 0 + cond whole 8 0
+  pub sum : s ≡ (if contained then 1 else 0) + (if begins then 2 else 0) + (if ends then 4 else 0) + (if whole then 8 else 0)

@@ -1,5 +1,6 @@
 pub mod Routes
 pub mod Checked
+pub mod Children
 pub mod Facts
 pub mod Boundaries
 pub mod Selections

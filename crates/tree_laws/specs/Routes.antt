@@ -1,5 +1,5 @@
 -- The routes of a process tree: which words of moves each node of a table has.
-use Rattle.std.specs.Prelude.{◌≡◌, ℕ, ◌-◌, ◌<◌, ◌≤◌, List, [], ◌∷◌, ◌++◌, length, get_or, slice_index_or}
+use Rattle.std.specs.Prelude.{◌≡◌, ℕ, ◌-◌, ◌<◌, ◌≤◌, List, [], ◌∷◌, ◌++◌, length, slice_index_or}
 use Rattle.terms.specs.Words.{Move}
 use Rattle.tree_laws.specs.declared.Node.{Node}
 use Rattle.tree_laws.specs.declared.Node.TheVariants.{Skip, Move as Single, Choice, Sequence, Loop, Parallel}
@@ -14,7 +14,7 @@ pub data Interleaving : List ℕ → List ℕ → List ℕ → Type 0 where
 pub record IsNode (t : List Node) (v : ℕ) (x : Node) : Type 0 where
   pub from_one : 1 ≤ v
   pub inside : v ≤ length t
-  pub kind : get_or t (v - 1) Skip ≡ x
+  pub kind : slice_index_or t (v - 1) Skip ≡ x
 
 -- w is a route of node v of the table t
 pub data Route (t : List Node) : ℕ → List ℕ → Type 0 where

@@ -1,119 +1,117 @@
 -- The rule of the table of weights, and the law of the dearest move.
-use Rattle.std.specs.Prelude.{◌≡◌, ℕ, zero, suc, ◌-◌, ◌≤◌, max, Bool, true, false, ◌&&◌, ◌⊎◌, List, [], ◌∷◌, All, nat_le, refl}
-use Rattle.std.proofs.Common.{sym, ap, ◌∙◌, inl, inr, arith}
-use Rattle.std.proofs.lemmas.List.Elements.{All-nil, All-cons, All-get_or}
-use Rattle.std.proofs.lemmas.Bool.{cases_Bool, cases_lt, and_parts, and_from, leb-true, le-leb, cond-true, cond-false, both_ways}
+use Rattle.std.specs.Prelude.{◌≡◌, ℕ, zero, suc, ◌-◌, ◌≤◌, max, ◌&&◌, ◌⊎◌, Option, Some, None, MatchOption, List, [], ◌∷◌, All, Contains, Decides, true, filter_map, fold, length, nat_le, refl, unwrap_or}
+use Rattle.std.specs.List.{cons_option, reduce}
+use Rattle.std.proofs.Common.{sym, ap, ◌∙◌, subst, inl, inr, arith}
+use Rattle.std.proofs.lemmas.List.Elements.{All-cons, All-contains, All-get_or, All-nil, All-weaker, Contains-append_right}
+use Rattle.std.proofs.lemmas.List.Sums.{AllPass-from_list_all}
+use Rattle.std.proofs.lemmas.Bool.{cases_Bool, cases_lt, and_parts, leb-true, le-leb, cond-true, cond-false, both_ways, false_from_ne_true}
+use Rattle.std.proofs.lemmas.Bool.Decides.{Decides-and}
 use Rattle.terms.specs.Words.{Move}
-use Rattle.weighings.specs.Weights.{InRange, move_weights, move_weight, is_move, dearest, HasMove, IsDearest}
+use Rattle.weighings.specs.Weights.{InRange, move_weights, move_weight, is_move, weight_if_move, dearest, HasMove, IsDearest}
 
 pub one_in_range : InRange 1
 one_in_range = record { least = omega arith; most = omega arith }
 
 -- one computed test for the whole table
-in_range : ℕ → Bool
-in_range w = nat_le 1 w && nat_le w 1000
-
-all_in_range : List ℕ → Bool
-all_in_range [] = true
-all_in_range (w ∷ ws) = in_range w && all_in_range ws
-
-from_test : (ws : List ℕ) → all_in_range ws ≡ true → All InRange ws
-unfolding all_in_range in_range
-from_test [] passed = All-nil InRange
-from_test (w ∷ ws) passed =
-    let parts = and_parts (in_range w) (all_in_range ws) passed in
-    let ends = and_parts (nat_le 1 w) (nat_le w 1000) parts.0 in
-    All-cons InRange w ws (record { least = leb-true 1 w ends.0; most = leb-true w 1000 ends.1 }) (from_test ws parts.1)
-
 pub table_rule : All InRange move_weights
-unfolding all_in_range in_range
-table_rule = from_test move_weights refl
+table_rule =
+    All-weaker (λ w. nat_le 1 w && nat_le w 1000 ≡ true) InRange
+    (λ w passed. let ends = and_parts (nat_le 1 w) (nat_le w 1000) passed in record { least = leb-true 1 w ends.0; most = leb-true w 1000 ends.1 })
+    move_weights (AllPass-from_list_all (λ w. nat_le 1 w && nat_le w 1000) move_weights refl)
 
 pub move_in_range : (x : ℕ) → Move 12 x → InRange (move_weight x)
 move_in_range x move = All-get_or InRange move_weights (x - 1) 0 (omega arith) table_rule
 
-move_from_test : (x : ℕ) → is_move x ≡ true → Move 12 x
-move_from_test x passed =
-    let ends = and_parts (nat_le 1 x) (nat_le x 12) passed in
-    (leb-true 1 x ends.0, leb-true x 12 ends.1)
+decides_move : (x : ℕ) → Decides (is_move x) (Move 12 x)
+decides_move x = Decides-and (nat_le 1 x) (nat_le x 12) (leb-true 1 x, le-leb 1 x) (leb-true x 12, le-leb x 12)
 
-test_from_move : (x : ℕ) → Move 12 x → is_move x ≡ true
-test_from_move x move = and_from (nat_le 1 x) (nat_le x 12) (le-leb 1 x move.0) (le-leb x 12 move.1)
+weighs : (x : ℕ) → Move 12 x → weight_if_move x ≡ Some (move_weight x)
+weighs x move = cond-true (is_move x) _ _ ((decides_move x).1 move)
 
-pub dearest_move : (x : ℕ) (xs : List ℕ) → is_move x ≡ true → dearest (x ∷ xs) ≡ max (move_weight x) (dearest xs)
-dearest_move x xs e = cond-true (is_move x) (max (move_weight x) (dearest xs)) (dearest xs) e
+weighs_nothing : (x : ℕ) → (Move 12 x → ⊥) → weight_if_move x ≡ None
+weighs_nothing x other = cond-false (is_move x) _ _ (false_from_ne_true (is_move x) (λ e. other ((decides_move x).0 e)))
 
-pub dearest_other : (x : ℕ) (xs : List ℕ) → is_move x ≡ false → dearest (x ∷ xs) ≡ dearest xs
-dearest_other x xs e = cond-false (is_move x) (max (move_weight x) (dearest xs)) (dearest xs) e
+pub same_weight : (x : ℕ) (r : Option ℕ) → MatchOption r (Move 12 x → ⊥) (λ w. Move 12 x × (w ≡ move_weight x)) → r ≡ weight_if_move x
+same_weight x None other = sym (weighs_nothing x other)
+same_weight x (Some w) (move, is) = ap Some is ∙ sym (weighs x move)
+
+-- an item of a list is its first item, or one of the others
+first : (x : ℕ) (xs : List ℕ) → Contains (x ∷ xs) x
+first x xs = (0, omega arith, refl)
+
+later : (x y : ℕ) (xs : List ℕ) → Contains xs y → Contains (x ∷ xs) y
+later x y xs = Contains-append_right (x ∷ []) xs y
+
+first_or_later : (x y : ℕ) (xs : List ℕ) → Contains (x ∷ xs) y → (x ≡ y) ⊎ Contains xs y
+first_or_later x y xs (zero, inside, here) = inl here
+first_or_later x y xs (suc k, inside, here) = inr (k, omega (arith, inside), here)
+
+-- the largest of numbers is one of them, and none is larger
+largest : (a : ℕ) (xs : List ℕ) → ((fold max a xs ≡ a) ⊎ Contains xs (fold max a xs)) × (a ≤ fold max a xs) × All (λ x. x ≤ fold max a xs) xs
+largest a [] = (inl refl, omega arith, All-nil (λ x. x ≤ a))
+largest a (x ∷ xs) =
+    let all = largest (max a x) xs in
+    let top = fold max (max a x) xs in (
+      elim all.0 [
+        | inl e ↦ elim (cases_lt a x) [ inl l ↦ inr (0, omega arith, omega arith) | inr l ↦ inl (omega arith) ]
+        | inr l ↦ inr (later x top xs l)
+      ],
+      omega arith,
+      All-cons (λ x. x ≤ top) x xs (omega arith) all.2,
+    )
+
+largest_or_one : (ws : List ℕ) → ((ws ≡ []) × (unwrap_or (reduce max ws) 1 ≡ 1)) ⊎ Contains ws (unwrap_or (reduce max ws) 1)
+largest_or_one [] = inl (refl, refl)
+largest_or_one (w ∷ ws) = inr (elim (largest w ws).0 [ inl e ↦ (0, omega arith, sym e) | inr l ↦ later w (fold max w ws) ws l ])
+
+none_larger : (ws : List ℕ) → All (λ w. w ≤ unwrap_or (reduce max ws) 1) ws
+none_larger [] = All-nil (λ w. w ≤ 1)
+none_larger (w ∷ ws) = All-cons (λ x. x ≤ fold max w ws) w ws (largest w ws).1 (largest w ws).2
+
+abbrev weights : List ℕ → List ℕ
+weights window = filter_map weight_if_move window
+
+-- the weights of a window are those of its moves
+has_weight : (window : List ℕ) (y : ℕ) → HasMove window y → Contains (weights window) (move_weight y)
+has_weight [] y has = absurd (omega (arith, has.0.1))
+has_weight (x ∷ xs) y (has, move) =
+    elim (first_or_later x y xs has) [
+      | inl e ↦ rw (e, weighs y move) (first (move_weight y) (weights xs))
+      | inr l ↦ past (weight_if_move x) (has_weight xs y (l, move))
+    ]
+  where
+    past : (o : Option ℕ) → Contains (weights xs) (move_weight y) → Contains (cons_option o (weights xs)) (move_weight y)
+    past None h = h
+    past (Some w) h = later w (move_weight y) (weights xs) h
+
+from_weight : (window : List ℕ) (m : ℕ) → Contains (weights window) m → (y : ℕ) × HasMove window y × (move_weight y ≡ m)
+from_weight [] m has = absurd (omega (arith, has.1))
+from_weight (x ∷ xs) m has =
+    elim (cases_Bool (is_move x)) [
+      | inl e ↦
+          let move = (decides_move x).0 e in
+          let here : Contains (move_weight x ∷ weights xs) m = rw (weighs x move) at has in
+          elim (first_or_later (move_weight x) m (weights xs) here) [ inl is ↦ (x, (first x xs, move), is) | inr l ↦ onwards (from_weight xs m l) ]
+      | inr e ↦ onwards (from_weight xs m (rw (weighs_nothing x (λ move. both_ways (is_move x) e ((decides_move x).1 move))) at has))
+    ]
+  where
+    onwards : (y : ℕ) × HasMove xs y × (move_weight y ≡ m) → (y : ℕ) × HasMove (x ∷ xs) y × (move_weight y ≡ m)
+    onwards (y, found, is) = (y, (later x y xs found.0, found.1), is)
 
 pub dearest_in_range : (window : List ℕ) → InRange (dearest window)
-dearest_in_range [] = record { least = omega arith; most = omega arith }
-dearest_in_range (x ∷ xs) =
-    let rest = dearest_in_range xs in
-    elim (cases_Bool (is_move x)) [
-      | inl e ↦
-          let here = move_in_range x (move_from_test x e) in
-          let is = dearest_move x xs e in
-          record { least = omega arith; most = omega arith }
-      | inr e ↦ let is = dearest_other x xs e in record { least = omega arith; most = omega arith }
-    ]
-
--- a move of the rest, or the first item
-has_later : (x y : ℕ) (xs : List ℕ) → HasMove xs y → HasMove (x ∷ xs) y
-has_later x y xs has = ((suc has.0.0, omega (arith, has.0.1), has.0.2), has.1)
-
-has_first : (x : ℕ) (xs : List ℕ) → Move 12 x → HasMove (x ∷ xs) x
-has_first x xs move = ((0, omega arith, refl), move)
-
-has_cases : (x y : ℕ) (xs : List ℕ) → HasMove (x ∷ xs) y → (x ≡ y) ⊎ HasMove xs y
-has_cases x y xs ((zero, inside, here), move) = inl here
-has_cases x y xs ((suc k, inside, here), move) = inr ((k, omega arith, here), move)
-
-none_dearer : (window : List ℕ) (y : ℕ) → HasMove window y → move_weight y ≤ dearest window
-none_dearer [] y has = absurd (omega (arith, has.0.1))
-none_dearer (x ∷ xs) y has =
-    elim (has_cases x y xs has) [
-      | inl e ↦ omega (arith, dearest_move x xs (test_from_move x (omega (arith, has.1.0), omega (arith, has.1.1))), ap move_weight e)
-      | inr later ↦
-          let rest = none_dearer xs y later in
-          elim (cases_Bool (is_move x)) [ inl e ↦ omega (arith, dearest_move x xs e) | inr e ↦ omega (arith, dearest_other x xs e) ]
-    ]
-
--- the dearest weight is that of some move, or there is no move and it is 1
-attained : (window : List ℕ) → (((y : ℕ) → HasMove window y → ⊥) × (dearest window ≡ 1)) ⊎ ((y : ℕ) × HasMove window y × (move_weight y ≡ dearest window))
-attained [] = inl (λ y has. omega (arith, has.0.1), refl)
-attained (x ∷ xs) =
-    elim (cases_Bool (is_move x)) [
-      | inl e ↦
-          let move = move_from_test x e in
-          let is = dearest_move x xs e in
-          elim (attained xs) [
-            | inl none ↦ inr (x, has_first x xs move, omega (arith, (move_in_range x move).least))
-            | inr some ↦
-                elim (cases_lt (move_weight x) (dearest xs)) [
-                  | inl less ↦ inr (some.0, has_later x some.0 xs some.1, omega (arith, some.2))
-                  | inr more ↦ inr (x, has_first x xs move, omega arith)
-                ]
-          ]
-      | inr e ↦
-          let is = dearest_other x xs e in
-          elim (attained xs) [
-            | inl none ↦
-                inl (
-                  λ y has. elim (has_cases x y xs has) [
-                    | inl same ↦ both_ways (is_move x) e (test_from_move x (omega (arith, has.1.0), omega (arith, has.1.1)))
-                    | inr later ↦ none.0 y later
-                  ],
-                  is ∙ none.1,
-                )
-            | inr some ↦ inr (some.0, has_later x some.0 xs some.1, some.2 ∙ sym is)
-          ]
+dearest_in_range window =
+    elim (largest_or_one (weights window)) [
+      | inl none ↦ rw none.1 one_in_range
+      | inr has ↦ let (y, found, is) = from_weight window (dearest window) has in subst InRange is (move_in_range y found.1)
     ]
 
 pub is_dearest : (window : List ℕ) → IsDearest window (dearest window)
 is_dearest window =
     record {
-      without_moves = λ none. elim (attained window) [ inl e ↦ e.1 | inr some ↦ absurd (none some.0 some.1) ];
-      with_moves = λ x has. elim (attained window) [ inl e ↦ absurd (e.0 x has) | inr some ↦ some ];
-      none_dearer = none_dearer window;
+      without_moves = λ none. elim (largest_or_one (weights window)) [ inl e ↦ e.1 | inr has ↦ let (y, found, is) = from_weight window (dearest window) has in absurd (none y found) ];
+      with_moves = λ x has. elim (largest_or_one (weights window)) [
+        | inl e ↦ absurd (omega (arith, (has_weight window x has).1, ap length e.0))
+        | inr most ↦ from_weight window (dearest window) most
+      ];
+      none_dearer = λ x has. All-contains (λ w. w ≤ dearest window) (weights window) (move_weight x) (none_larger (weights window)) (has_weight window x has);
     }

@@ -1,5 +1,6 @@
 -- What moves weigh, and the weight of the dearest move of a window.
-use Rattle.std.specs.Prelude.{◌≡◌, ℕ, ◌-◌, ◌≤◌, max, Bool, cond, ◌&&◌, List, [], ◌∷◌, Contains, nat_le, slice_index}
+use Rattle.std.specs.Prelude.{◌≡◌, ℕ, ◌-◌, ◌≤◌, max, Bool, ◌&&◌, if◌then◌else◌, Option, Some, None, List, [], ◌∷◌, Contains, nat_le, slice_index, filter_map, unwrap_or}
+use Rattle.std.specs.List.{reduce}
 use Rattle.terms.specs.Words.{Move}
 
 -- every weight lies between these
@@ -18,10 +19,13 @@ move_weight x = slice_index move_weights (x - 1)
 abbrev pub is_move : ℕ → Bool
 is_move x = nat_le 1 x && nat_le x 12
 
--- the largest weight among the moves of a window, 1 where it has none; what is no move is passed over
+-- what is no move has no weight
+abbrev pub weight_if_move : ℕ → Option ℕ
+weight_if_move x = if is_move x then Some (move_weight x) else None
+
+-- the largest weight among the moves of a window, 1 where it has none
 abbrev pub dearest : List ℕ → ℕ
-dearest [] = 1
-dearest (x ∷ xs) = cond (is_move x) (max (move_weight x) (dearest xs)) (dearest xs)
+dearest window = unwrap_or (reduce max (filter_map weight_if_move window)) 1
 
 -- the move x stands in the window
 abbrev pub HasMove : List ℕ → ℕ → Type 0

@@ -4,9 +4,11 @@
 ghost use Rattle.std.specs.Prelude.{◌≡◌, ℕ, max, List, IfSome, if◌then◌else◌, MatchOption};
 ghost use Rattle.terms.specs.Words.{Move};
 ghost use Rattle.weighings.specs.Weights.{InRange, move_weight, is_move, dearest, IsDearest};
-ghost use Rattle.weighings.specs.Choices.{either_weight};
+ghost use Rattle.either.specs.Either.{either};
 ghost use Rattle.weighings.specs.Moves.{dearest_in_range, one_in_range};
-ghost use Rattle.weighings.specs.declared.Either.TheVariants.{Left, Right};
+ghost use Rattle.either.specs.declared.Either.TheVariants.{Left, Right};
+
+pub use either::Either;
 
 // Answers a weight for a window, and for any other list of bytes too.
 pub trait Weighing {
@@ -64,32 +66,16 @@ pub fn dearest_weight(window: &[u8]) -> u32
     ensures value { result ≡ dearest window.now }
     ensures law { IsDearest window.now result }
 {
-    let mut most = 1;
-    for item in window {
-        most = dearer(most, *item);
-    }
-    most
-}
-
-// The larger of a weight and that of the item, if it is a move.
-fn dearer(most: u32, item: u8) -> u32
-    ensures { result ≡ (if is_move item then max (move_weight item) most else most) }
-{
-    match weight_of(item) {
-        Some(weight) => weight.max(most),
-        None => most,
-    }
+    window
+        .iter()
+        .filter_map(|item| weight_of(*item))
+        .max()
+        .unwrap_or(1)
 }
 
 // A weighing of either of two types, so that both can stand in one list.
-#[derive(Clone, Copy, PartialEq, Eq, Debug)]
-pub enum Either<L, R> {
-    Left(L),
-    Right(R),
-}
-
 impl<L: Weighing, R: Weighing> Weighing for Either<L, R> {
-    ghost weight = { either_weight L.Weighing.weight R.Weighing.weight };
+    ghost weight = { either L.Weighing.weight R.Weighing.weight };
 
     ghost range = { elim [
       | Left x ↦ λ window. L.Weighing.range x window
