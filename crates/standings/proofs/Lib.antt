@@ -1,4 +1,3 @@
 pub mod Asked
 pub mod LoopStates
 pub mod Masks
-pub mod SubWords

@@ -5,7 +5,7 @@ use Rattle.terms.specs.Words.{Moves}
 use Rattle.windows.specs.declared.alphabet.Alphabet.{Alphabet}
 use Rattle.racks.specs.Views.{View}
 use Rattle.tree_laws.specs.declared.Node.{Node}
-use Rattle.tree_laws.specs.declared.Node.TheVariants.{Skip, Move as Single, Choice, Sequence, Loop, Parallel}
+use Rattle.tree_laws.specs.Children.{first_child, second_child}
 use Rattle.row_laws.specs.Rows.{row_key}
 use Rattle.tree_laws.specs.Computed.{standing_of}
 
@@ -26,23 +26,6 @@ pub record ShortMoves (alphabet : Alphabet) (u : List ℕ) : Type 0 where
 pub record RowRead (n k : ℕ) (f : ℕ → ℕ) (v : ℕ) (u : List ℕ) (r : ℕ) : Type 0 where
   pub number : Word n k u → r ≡ rows_of n k f v u
   pub no_word : (Word n k u → ⊥) → r ≡ 0
-
--- the children of a node, 0 where it has none
-abbrev pub first_child : Node → ℕ
-first_child Skip = 0
-first_child (Single m) = 0
-first_child (Choice a b) = a
-first_child (Sequence a b) = a
-first_child (Loop a b) = a
-first_child (Parallel a b) = a
-
-abbrev pub second_child : Node → ℕ
-second_child Skip = 0
-second_child (Single m) = 0
-second_child (Choice a b) = b
-second_child (Sequence a b) = b
-second_child (Loop a b) = b
-second_child (Parallel a b) = b
 
 -- the standing of u at the node x by the rows of the children of x
 abbrev pub standing_by : ℕ → ℕ → (ℕ → ℕ) → Node → List ℕ → ℕ

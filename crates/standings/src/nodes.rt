@@ -2,7 +2,8 @@
 ghost use Rattle.std.specs.Prelude.{◌≡◌, ◌<◌, ◌≤◌, length};
 ghost use Rattle.tree_laws.specs.Computed.{standing_of};
 ghost use Rattle.terms.specs.Words.{Moves};
-ghost use Rattle.standings.specs.Rows.{ShortMoves, rows_in, first_child, second_child, standing_by};
+ghost use Rattle.tree_laws.specs.Children.{first_child, second_child};
+ghost use Rattle.standings.specs.Rows.{ShortMoves, rows_in, standing_by};
 
 use crate::children::Children;
 use crate::leaves::{single, skip};

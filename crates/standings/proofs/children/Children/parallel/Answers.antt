@@ -3,17 +3,17 @@ use Rattle.std.specs.Prelude.{bit_and}
 use Rattle.tree_laws.specs.Computed.{mask_bits}
 use Rattle.tree_laws.proofs.Bits.{ors_more}
 use Rattle.standings.specs.Children.{by_rows}
-use Rattle.standings.proofs.SubWords.{picked_part, left_part}
+use Rattle.standings.proofs.Masks.{parts}
 use Rattle.standings.proofs.children.Children.parallel.Goals as goal
 
 pub at_first-requires : goal.at_first-requires
 at_first-requires g c =
-    let part = picked_part c.args.self.now.alphabet.now c.args.word.now c.loop-mask.mask c.requires in
+    let part = (parts c.args.self.now.alphabet.now c.args.word.now c.loop-mask.mask c.requires).0 in
     rw (c.loop-mask.invariant.0.alphabet, c.as_slice.ensures, c.split.ensures.first) part
 
 pub at_second-requires : goal.at_second-requires
 at_second-requires g c =
-    let part = left_part c.args.self.now.alphabet.now c.args.word.now c.loop-mask.mask c.requires in
+    let part = (parts c.args.self.now.alphabet.now c.args.word.now c.loop-mask.mask c.requires).1 in
     rw (c.at_first.ensures.unaltered.alphabet, c.loop-mask.invariant.0.alphabet, c.as_slice-in-loop-mask.ensures, c.split.ensures.second) part
 
 pub loop-mask-preserved : goal.loop-mask-preserved
