@@ -10,6 +10,7 @@ use racks::Rack;
 
 impl<R: Rack> Children<'_, R> {
     // The word shared out between the children in every way.
+    #[tactic(auto, using(tree_laws::proofs::Bits::ors_more))]
     pub(crate) fn parallel(&mut self, word: &[u8]) -> u32
         requires { ShortMoves self.old.alphabet.now word.now }
         ensures answer { result ≡ by_rows R.view self.old parallel_standing word.now }

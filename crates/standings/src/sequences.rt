@@ -26,6 +26,7 @@ fn back(standing: u32) -> u32
 
 impl<R: Rack> Children<'_, R> {
     // The word cut in two at each place, the front in the first child and the rest in the second.
+    #[tactic(auto, using(tree_laws::proofs::Bits::ors_more))]
     fn cuts(&mut self, word: &[u8]) -> u32
         requires { ShortMoves self.old.alphabet.now word.now }
         ensures answer { result ≡ ors (by_rows R.view self.old cut_bits word.now) (length word.now + 1) }
