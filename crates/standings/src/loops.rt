@@ -87,7 +87,6 @@ impl<R: Rack> Children<'_, R> {
     }
 
     // The rest of the word from each position on begins a route of the child that is next there.
-    #[tactic(auto, using(tree_laws::proofs::Bits::ors_more, crate::proofs::LoopStates::a_at, crate::proofs::LoopStates::b_at))]
     fn rests(&mut self, word: &[u8], states: &[States]) -> u32
         requires word { ShortMoves self.old.alphabet.now word.now }
         requires within { length states.now ≤ length word.now + 1 }
@@ -103,6 +102,7 @@ impl<R: Rack> Children<'_, R> {
     }
 
     // From the start or the middle of the loop: whether the word may end the loop, and whether it may stop before the end.
+    #[tactic(auto, using(crate::proofs::LoopStates::run_is))]
     fn run(&mut self, middle: bool, word: &[u8]) -> u32
         requires { ShortMoves self.old.alphabet.now word.now }
         ensures answer { result ≡ by_rows R.view self.old (run_standing middle) word.now }

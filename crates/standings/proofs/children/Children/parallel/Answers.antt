@@ -1,4 +1,3 @@
-use Rattle.std.proofs.Common.{◌≡◌, arith}
 use Rattle.standings.proofs.Masks.{parts}
 use Rattle.standings.proofs.children.Children.parallel.Goals as goal
 
