@@ -1,4 +1,2 @@
-pub mod Closures
+pub mod LoopStates
 pub mod Masks
-pub mod Questions
-pub mod SubWords

@@ -1,50 +1,44 @@
--- The split of a word by a mask: the step of the loop over its items, and what both parts have from the word.
-use Rattle.std.proofs.Common.{◌≡◌, ℕ, ◌+◌, ◌/◌, ◌%◌, ◌^◌, ◌<◌, ◌≤◌, true, false, eqb, List, [], ◌∷◌, ◌++◌, length, get_or, take, All, ◌∙◌, arith}
-use lib.Bits.{bit_and, and_mask}
-use Rattle.std.proofs.lemmas.List.Elements.{All-nil, All-cons, All-head, All-tail}
-use Rattle.std.proofs.lemmas.Bool.{cond-true, cond-false, cond_both, eq-eqb, ne_eqb}
+-- The split of a word by a mask: both parts are words, and the step of the loop over the items.
+use Rattle.std.proofs.Common.{◌≡◌, ℕ, ◌+◌, ◌/◌, ◌^◌, ◌<◌, ◌≤◌, cond, List, [], ◌∷◌, ◌++◌, length, get_or, take, sym, ap, ◌∙◌, arith}
+use Rattle.std.specs.Prelude.{bit_and}
+use Rattle.std.proofs.lemmas.Bool.{eq-eqb, ne_eqb}
+use Rattle.std.proofs.lemmas.List.{take_all, length-take}
+use Rattle.std.proofs.lemmas.Nat.Bits.{shr_and_one}
+use Rattle.terms.specs.Words.{Move}
+use Rattle.windows.specs.declared.alphabet.Alphabet.{Alphabet}
 use Rattle.tree_laws.specs.Selections.{picked, left_out}
-use Rattle.tree_laws.proofs.Bits.{on}
-use Rattle.tree_laws.proofs.Masks.{picked_more, left_more}
+use Rattle.tree_laws.proofs.Computed.{parts_all, parts_long}
+use Rattle.tree_laws.proofs.Masks.{selected, picked_more, left_more}
+use Rattle.standings.specs.Rows.{ShortMoves}
 
-bit_is : (m i : ℕ) → bit_and (m / 2 ^ i) 1 ≡ m / 2 ^ i % 2
-bit_is m i = and_mask (m / 2 ^ i) 1
+pub parts : (a : Alphabet) (u : List ℕ) (m : ℕ) → ShortMoves a u → ShortMoves a (picked m u) × ShortMoves a (left_out m u)
+parts a u m of =
+    let all = parts_all (Move a.moves) (selected m u) of.moves in
+    let long = parts_long (selected m u) in
+    (record { moves = all.0; short = omega (arith, of.short) }, record { moves = all.1; short = omega (arith, of.short) })
 
-module _ (m : ℕ) (u : List ℕ) (i : ℕ) (inside : i < length u) where
-  module _ (set : bit_and (m / 2 ^ i) 1 ≡ 1) where
-    is_on : on m i ≡ true
-    is_on = eq-eqb (m / 2 ^ i % 2) 1 (omega (arith, bit_is m i))
+-- a list with room for n items takes what a part of the word has
+room : (n : ℕ) (u : List ℕ) (m : ℕ) → length u ≤ n → (take n (picked m u) ≡ picked m u) × (take n (left_out m u) ≡ left_out m u)
+room n u m short =
+    let long = parts_long (selected m u) in
+    (take_all n (picked m u) (omega arith), take_all n (left_out m u) (omega arith))
 
-    pub picked_set : picked m (take (i + 1) u) ≡ picked m (take i u) ++ (get_or u i 0 ∷ [])
-    picked_set = picked_more m u i 0 inside ∙ cond-true (on m i) _ _ is_on
+-- l and r are the parts of the first i items, and the next item goes to one of them
+module _ (m : ℕ) (u : List ℕ) (i : ℕ) (inside : i < length u) (n : ℕ) (short : length u ≤ n)
+    {l r : List ℕ} (left : l ≡ picked m (take i u)) (right : r ≡ left_out m (take i u)) where
+  fits : length (take (i + 1) u) ≤ n
+  fits = omega (arith, length-take (i + 1) u)
 
-    pub left_set : left_out m (take (i + 1) u) ≡ left_out m (take i u)
-    left_set = left_more m u i 0 inside ∙ cond-true (on m i) _ _ is_on
+  pub next_picked : bit_and (m / 2 ^ i) 1 ≡ 1 → (take n (l ++ (get_or u i 0 ∷ [])) ≡ picked m (take (i + 1) u)) × (r ≡ left_out m (take (i + 1) u))
+  next_picked set =
+      let on = eq-eqb _ 1 (sym (shr_and_one m i) ∙ set) in
+      let more = picked_more m u i 0 inside ∙ ap (λ b. cond b (picked m (take i u) ++ (get_or u i 0 ∷ [])) (picked m (take i u))) on in
+      let less = left_more m u i 0 inside ∙ ap (λ b. cond b (left_out m (take i u)) (left_out m (take i u) ++ (get_or u i 0 ∷ []))) on in
+      (ap (λ p. take n (p ++ (get_or u i 0 ∷ []))) left ∙ ap (take n) (sym more) ∙ (room n (take (i + 1) u) m fits).0, right ∙ sym less)
 
-  module _ (unset : bit_and (m / 2 ^ i) 1 ≡ 1 → ⊥) where
-    is_off : on m i ≡ false
-    is_off = ne_eqb (m / 2 ^ i % 2) 1 (λ e. unset (bit_is m i ∙ e))
-
-    pub picked_unset : picked m (take (i + 1) u) ≡ picked m (take i u)
-    picked_unset = picked_more m u i 0 inside ∙ cond-false (on m i) _ _ is_off
-
-    pub left_unset : left_out m (take (i + 1) u) ≡ left_out m (take i u) ++ (get_or u i 0 ∷ [])
-    left_unset = left_more m u i 0 inside ∙ cond-false (on m i) _ _ is_off
-
--- each item of a part is one of the word
-module _ (P : ℕ → Type 0) where
-  pub all_picked : (m : ℕ) (u : List ℕ) → All P u → All P (picked m u)
-  all_picked m [] all = All-nil P
-  all_picked m (x ∷ u) all = let rest = all_picked (m / 2) u (All-tail P x u all) in cond_both (eqb (m % 2) 1) _ _ (All P) (λ e. All-cons P x _ (All-head P x u all) rest) (λ e. rest)
-
-  pub all_left : (m : ℕ) (u : List ℕ) → All P u → All P (left_out m u)
-  all_left m [] all = All-nil P
-  all_left m (x ∷ u) all = let rest = all_left (m / 2) u (All-tail P x u all) in cond_both (eqb (m % 2) 1) _ _ (All P) (λ e. rest) (λ e. All-cons P x _ (All-head P x u all) rest)
-
-pub length_picked : (m : ℕ) (u : List ℕ) → length (picked m u) ≤ length u
-length_picked m [] = omega arith
-length_picked m (x ∷ u) = let rest = length_picked (m / 2) u in cond_both (eqb (m % 2) 1) _ _ (λ l. length l ≤ length (x ∷ u)) (λ e. omega arith) (λ e. omega arith)
-
-pub length_left : (m : ℕ) (u : List ℕ) → length (left_out m u) ≤ length u
-length_left m [] = omega arith
-length_left m (x ∷ u) = let rest = length_left (m / 2) u in cond_both (eqb (m % 2) 1) _ _ (λ l. length l ≤ length (x ∷ u)) (λ e. omega arith) (λ e. omega arith)
+  pub next_left : (bit_and (m / 2 ^ i) 1 ≡ 1 → ⊥) → (l ≡ picked m (take (i + 1) u)) × (take n (r ++ (get_or u i 0 ∷ [])) ≡ left_out m (take (i + 1) u))
+  next_left unset =
+      let off = ne_eqb _ 1 (λ e. unset (shr_and_one m i ∙ e)) in
+      let less = picked_more m u i 0 inside ∙ ap (λ b. cond b (picked m (take i u) ++ (get_or u i 0 ∷ [])) (picked m (take i u))) off in
+      let more = left_more m u i 0 inside ∙ ap (λ b. cond b (left_out m (take i u)) (left_out m (take i u) ++ (get_or u i 0 ∷ []))) off in
+      (left ∙ sym less, ap (λ p. take n (p ++ (get_or u i 0 ∷ []))) right ∙ ap (take n) (sym more) ∙ (room n (take (i + 1) u) m fits).1)

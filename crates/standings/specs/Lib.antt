@@ -1,3 +1,3 @@
 pub mod Rows
-pub mod Questions
-pub mod Buffers
+pub mod Children
+pub mod Loops

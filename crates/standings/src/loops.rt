@@ -1,40 +1,22 @@
 // A route of the first child, then any number of times one of the second and one of the first.
-ghost use Rattle.std.specs.Prelude.{◌≡◌, ◌+◌, ◌-◌, ◌≤◌, length, take, if◌then◌else◌, bit_and, slice_index, slice_range};
+ghost use Rattle.std.specs.Prelude.{◌≡◌, ◌+◌, ◌≤◌, length, if◌then◌else◌};
 ghost use Rattle.tree_laws.specs.Boundaries.{next_a, next_b};
-ghost use Rattle.tree_laws.specs.Computed.{has, ors, fresh_start, state_bit, rest_bits, run_standing, loop_standing};
-ghost use Rattle.standings.specs.Questions.{Asked};
+ghost use Rattle.tree_laws.specs.Computed.{has, ors, start_bit, piece_bit, state_bit, rest_bits, run_standing, loop_standing};
+ghost use Rattle.standings.specs.Children.{by_rows, Unaltered};
+ghost use Rattle.standings.specs.Loops.{columns};
+ghost use Rattle.standings.specs.Rows.{ShortMoves};
 
-use crate::choices::choice;
-use crate::rows::{BEGINS, CONTAINED, ENDS, WHOLE, row};
+use crate::children::Children;
+use crate::rows::{BEGINS, CONTAINED, ENDS, WHOLE};
+use fixed_vec::FixedVec;
 use racks::Rack;
-use windows::Alphabet;
 
-// The two children of a loop, and whether the word stands in the middle of the loop or at its start.
-#[derive(Clone, Copy)]
-struct Turns {
-    first: u8,
-    second: u8,
-    middle: bool,
-}
-
-// Reached from a lower position by a whole route of the child, up to the position `end`.
-fn arrived<R: Rack>(
-    alphabet: &Alphabet,
-    rack: &mut R,
-    child: u8,
-    word: &[u8],
-    end: usize,
-    states: &[u32],
-) -> u32
-    requires within_word { end ≤ length word.now }
-    requires within_states { end ≤ length states.now }
-    ensures { Asked R.view R.sound R.unused rack.old rack.new alphabet.now word.now (λ rows. result ≡ ors (λ i. bit_and (slice_index states.now i) (rows child (slice_range word.now i end))) end) }
-{
-    let mut bits = 0;
-    for i in 0..end {
-        bits |= states[i] & row(alphabet, rack, child, &word[i..end]);
-    }
-    bits
+// The boundaries at a position of a word: WHOLE in `a` if one is reached there behind which the first child is next,
+// and WHOLE in `b` for the second.
+#[derive(Clone, Copy, Default)]
+pub(crate) struct States {
+    pub(crate) a: u32,
+    pub(crate) b: u32,
 }
 
 // A route that ends here leaves a boundary behind it.
@@ -44,118 +26,108 @@ fn boundary(standing: u32) -> u32
     if standing & ENDS != 0 { WHOLE } else { 0 }
 }
 
-// Reached by a start: a fresh loop's is given, and one in the middle of the loop is where the front ends a route of the child.
-fn start<R: Rack>(
-    alphabet: &Alphabet,
-    rack: &mut R,
-    middle: bool,
-    fresh: u32,
-    child: u8,
-    word: &[u8],
-    end: usize,
-) -> u32
-    requires { end ≤ length word.now }
-    ensures { Asked R.view R.sound R.unused rack.old rack.new alphabet.now word.now (λ rows. result ≡ (if middle then (if has (rows child (take end word.now)) 4 then 8 else 0) else fresh)) }
-{
-    if !middle {
-        return fresh;
+impl<R: Rack> Children<'_, R> {
+    // Reached by a start: at the start of the loop, or in its middle where the front ends a route of the other child.
+    fn start(&mut self, middle: bool, word: &[u8], end: usize) -> States
+        requires word { ShortMoves self.old.alphabet.now word.now }
+        requires within { end ≤ length word.now }
+        ensures a { result.a ≡ by_rows R.view self.old (start_bit middle) word.now end next_a }
+        ensures b { result.b ≡ by_rows R.view self.old (start_bit middle) word.now end next_b }
+        ensures unaltered { Unaltered R.view self.old self.new }
+    {
+        if middle {
+            let front = &word[..end];
+            States {
+                a: boundary(self.at_second(front)),
+                b: boundary(self.at_first(front)),
+            }
+        } else {
+            States {
+                a: if end == 0 { WHOLE } else { 0 },
+                b: 0,
+            }
+        }
     }
-    boundary(row(alphabet, rack, child, &word[..end]))
-}
 
-// The start of the loop, with the first child next.
-fn fresh_start(end: usize) -> u32
-    ensures { result ≡ fresh_start end next_a }
-{
-    if end == 0 { WHOLE } else { 0 }
-}
-
-// The states at the position `end`, with the first child next and with the second next, from those at lower positions.
-fn reached<R: Rack>(
-    alphabet: &Alphabet,
-    rack: &mut R,
-    turns: Turns,
-    word: &[u8],
-    end: usize,
-    a_next: &[u32],
-    b_next: &[u32],
-) -> (u32, u32)
-    requires within_word { end ≤ length word.now }
-    requires within_a { end ≤ length a_next.now }
-    requires within_b { end ≤ length b_next.now }
-    ensures { Asked R.view R.sound R.unused rack.old rack.new alphabet.now word.now (λ rows. (result.0 ≡ state_bit turns.middle (rows turns.first) (rows turns.second) word.now (a_next.now, b_next.now) end next_a) × (result.1 ≡ state_bit turns.middle (rows turns.first) (rows turns.second) word.now (a_next.now, b_next.now) end next_b)) }
-{
-    let fresh = fresh_start(end);
-    let a = start(alphabet, rack, turns.middle, fresh, turns.second, word, end)
-        | arrived(alphabet, rack, turns.second, word, end, b_next);
-    let b = start(alphabet, rack, turns.middle, 0, turns.first, word, end)
-        | arrived(alphabet, rack, turns.first, word, end, a_next);
-    // An empty route of a child carries over from its turn to the other's.
-    (
-        a | b & row(alphabet, rack, turns.second, &[]),
-        b | a & row(alphabet, rack, turns.first, &[]),
-    )
-}
-
-// The rest of the word from each position on begins a route of the child that is next there.
-fn rests<R: Rack>(
-    alphabet: &Alphabet,
-    rack: &mut R,
-    turns: Turns,
-    word: &[u8],
-    a_next: &[u32],
-    b_next: &[u32],
-) -> u32
-    requires short { length word.now ≤ 5 }
-    requires long_a { length a_next.now ≡ 6 }
-    requires long_b { length b_next.now ≡ 6 }
-    ensures { Asked R.view R.sound R.unused rack.old rack.new alphabet.now word.now (λ rows. result ≡ ors (rest_bits (rows turns.first) (rows turns.second) word.now (a_next.now, b_next.now)) (length word.now + 1)) }
-{
-    let mut bits = 0;
-    for j in 0..word.len() + 1 {
-        let a = (a_next[j] >> 2) & row(alphabet, rack, turns.first, &word[j..]);
-        let b = (b_next[j] >> 2) & row(alphabet, rack, turns.second, &word[j..]);
-        bits |= a | b;
+    // Reached from a lower position by a whole route of the child that was next there.
+    #[tactic(auto, using(tree_laws::proofs::Bits::ors_more, crate::proofs::LoopStates::a_at, crate::proofs::LoopStates::b_at))]
+    fn arrived(&mut self, word: &[u8], states: &[States]) -> States
+        requires word { ShortMoves self.old.alphabet.now word.now }
+        requires within { length states.now ≤ length word.now }
+        ensures a { result.a ≡ ors (by_rows R.view self.old piece_bit word.now (columns states.now).1 (length states.now) next_b) (length states.now) }
+        ensures b { result.b ≡ ors (by_rows R.view self.old piece_bit word.now (columns states.now).0 (length states.now) next_a) (length states.now) }
+        ensures unaltered { Unaltered R.view self.old self.new }
+    {
+        let mut reached = States { a: 0, b: 0 };
+        for (i, state) in states.iter().enumerate() {
+            let piece = &word[i..states.len()];
+            reached.a |= state.b & self.at_second(piece);
+            reached.b |= state.a & self.at_first(piece);
+        }
+        reached
     }
-    bits
-}
 
-// From the start or the middle of the loop: whether the word may end the loop, and whether it may stop before the end.
-fn run<R: Rack>(alphabet: &Alphabet, rack: &mut R, turns: Turns, word: &[u8]) -> u32
-    requires { length word.now ≤ 5 }
-    ensures { Asked R.view R.sound R.unused rack.old rack.new alphabet.now word.now (λ rows. result ≡ run_standing turns.middle (rows turns.first) (rows turns.second) word.now) }
-{
-    let mut a_next = [0; 6];
-    let mut b_next = [0; 6];
-    for j in 0..word.len() + 1 {
-        let (a, b) = reached(alphabet, rack, turns, word, j, &a_next, &b_next);
-        a_next[j] = a;
-        b_next[j] = b;
+    // The states at the position behind those that are given.
+    fn reached(&mut self, middle: bool, word: &[u8], states: &[States]) -> States
+        requires word { ShortMoves self.old.alphabet.now word.now }
+        requires within { length states.now ≤ length word.now }
+        ensures a { result.a ≡ by_rows R.view self.old (state_bit middle) word.now (columns states.now) (length states.now) next_a }
+        ensures b { result.b ≡ by_rows R.view self.old (state_bit middle) word.now (columns states.now) (length states.now) next_b }
+        ensures unaltered { Unaltered R.view self.old self.new }
+    {
+        let start = self.start(middle, word, states.len());
+        let arrived = self.arrived(word, states);
+        let a = start.a | arrived.a;
+        let b = start.b | arrived.b;
+        // An empty route of a child carries over from its turn to the other's.
+        States {
+            a: a | b & self.at_second(&[]),
+            b: b | a & self.at_first(&[]),
+        }
     }
-    let ended = b_next[word.len()] & WHOLE;
-    ended | rests(alphabet, rack, turns, word, &a_next, &b_next) & BEGINS
-}
 
-// In one route of a child, or across boundaries between such routes.
-pub(crate) fn repeat<R: Rack>(
-    alphabet: &Alphabet,
-    rack: &mut R,
-    first: u8,
-    second: u8,
-    word: &[u8],
-) -> u32
-    requires { length word.now ≤ 5 }
-    ensures { Asked R.view R.sound R.unused rack.old rack.new alphabet.now word.now (λ rows. result ≡ loop_standing (rows first) (rows second) word.now) }
-{
-    let mut turns = Turns {
-        first,
-        second,
-        middle: false,
-    };
-    let fresh = run(alphabet, rack, turns, word);
-    turns.middle = true;
-    // In the middle of the loop a whole run only ends, and a beginning is only contained.
-    let middle = run(alphabet, rack, turns, word) >> 1;
-    let inside = choice(alphabet, rack, first, second, word) & CONTAINED;
-    fresh | middle | inside
+    // The rest of the word from each position on begins a route of the child that is next there.
+    fn rests(&mut self, word: &[u8], states: &[States]) -> u32
+        requires word { ShortMoves self.old.alphabet.now word.now }
+        requires within { length states.now ≤ length word.now + 1 }
+        ensures answer { result ≡ ors (by_rows R.view self.old rest_bits word.now (columns states.now)) (length states.now) }
+        ensures unaltered { Unaltered R.view self.old self.new }
+    {
+        let mut bits = 0;
+        for (j, state) in states.iter().enumerate() {
+            let rest = &word[j..];
+            bits |= (state.a >> 2) & self.at_first(rest) | (state.b >> 2) & self.at_second(rest);
+        }
+        bits
+    }
+
+    // From the start or the middle of the loop: whether the word may end the loop, and whether it may stop before the end.
+    #[tactic(auto, using(crate::proofs::LoopStates::run_is))]
+    fn run(&mut self, middle: bool, word: &[u8]) -> u32
+        requires { ShortMoves self.old.alphabet.now word.now }
+        ensures answer { result ≡ by_rows R.view self.old (run_standing middle) word.now }
+        ensures unaltered { Unaltered R.view self.old self.new }
+    {
+        let mut states = FixedVec::<States, 6>::new();
+        for _ in 0..word.len() + 1 {
+            let next = self.reached(middle, word, states.as_slice());
+            states.push(next);
+        }
+        let states = states.as_slice();
+        let ended = states[word.len()].b & WHOLE;
+        ended | self.rests(word, states) & BEGINS
+    }
+
+    // In one route of a child, or across boundaries between such routes.
+    pub(crate) fn repeat(&mut self, word: &[u8]) -> u32
+        requires { ShortMoves self.old.alphabet.now word.now }
+        ensures answer { result ≡ by_rows R.view self.old loop_standing word.now }
+        ensures unaltered { Unaltered R.view self.old self.new }
+    {
+        let fresh = self.run(false, word);
+        // In the middle of the loop a whole run only ends, and a beginning is only contained.
+        let middle = self.run(true, word) >> 1;
+        let inside = self.choice(word) & CONTAINED;
+        fresh | middle | inside
+    }
 }

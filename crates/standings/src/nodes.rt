@@ -2,39 +2,58 @@
 ghost use Rattle.std.specs.Prelude.{◌≡◌, ◌<◌, ◌≤◌, length};
 ghost use Rattle.tree_laws.specs.Computed.{standing_of};
 ghost use Rattle.terms.specs.Words.{Moves};
-ghost use Rattle.standings.specs.Questions.{Asked, Kept, Ready};
-ghost use Rattle.standings.specs.Rows.{first_child, second_child, standing_by};
+ghost use Rattle.tree_laws.specs.Children.{first_child, second_child};
+ghost use Rattle.standings.specs.Rows.{ShortMoves, rows_in, standing_by};
 
-use crate::choices::choice;
+use crate::children::Children;
 use crate::leaves::{single, skip};
-use crate::loops::repeat;
-use crate::parallels::parallel;
-use crate::sequences::sequence;
 use racks::Rack;
 use tree_laws::Node;
 use windows::Alphabet;
 
+// The children of a node, 0 where it has none.
+fn children(node: Node) -> (u8, u8)
+    ensures first { result.0 ≡ first_child node }
+    ensures second { result.1 ≡ second_child node }
+{
+    match node {
+        Node::Skip | Node::Move(_) => (0, 0),
+        Node::Choice(first, second)
+        | Node::Sequence(first, second)
+        | Node::Loop(first, second)
+        | Node::Parallel(first, second) => (first, second),
+    }
+}
+
 // Each kind of node in its own way.
 fn by_kind<R: Rack>(alphabet: &Alphabet, node: Node, rack: &mut R, word: &[u8]) -> u32
-    requires { length word.now ≤ 5 }
-    ensures { Asked R.view R.sound R.unused rack.old rack.new alphabet.now word.now (λ rows. result ≡ standing_of node (rows (first_child node)) (rows (second_child node)) word.now) }
+    requires { ShortMoves alphabet.now word.now }
+    ensures answer { result ≡ standing_of node (rows_in alphabet.now (R.view rack.old) (first_child node)) (rows_in alphabet.now (R.view rack.old) (second_child node)) word.now }
+    ensures unaltered { R.view rack.new ≡ R.view rack.old }
 {
+    let (first, second) = children(node);
+    let mut children = Children {
+        alphabet,
+        rack,
+        first,
+        second,
+    };
     match node {
         Node::Skip => skip(word),
         Node::Move(only) => single(only, word),
-        Node::Choice(first, second) => choice(alphabet, rack, first, second, word),
-        Node::Sequence(first, second) => sequence(alphabet, rack, first, second, word),
-        Node::Loop(first, second) => repeat(alphabet, rack, first, second, word),
-        Node::Parallel(first, second) => parallel(alphabet, rack, first, second, word),
+        Node::Choice(..) => children.choice(word),
+        Node::Sequence(..) => children.sequence(word),
+        Node::Loop(..) => children.repeat(word),
+        Node::Parallel(..) => children.parallel(word),
     }
 }
 
 // The standing of the word at the node by the rows of the node's children, 0 for what is no word of at most k moves.
 pub fn standing<R: Rack>(alphabet: &Alphabet, node: Node, rack: &mut R, word: &[u8]) -> u32
-    ensures answer { Ready (R.sound rack.old) alphabet.now.moves alphabet.now.order word.now → result ≡ standing_by alphabet.now.moves alphabet.now.order (R.view rack.old).number node word.now }
+    ensures answer { Moves alphabet.now.moves word.now → length word.now ≤ alphabet.now.order → result ≡ standing_by alphabet.now.moves alphabet.now.order (R.view rack.old).number node word.now }
     ensures too_long { alphabet.now.order < length word.now → result ≡ 0 }
     ensures other_items { (Moves alphabet.now.moves word.now → ⊥) → result ≡ 0 }
-    ensures kept { Kept R.view R.sound R.unused rack.old rack.new }
+    ensures unaltered { R.view rack.new ≡ R.view rack.old }
 {
     if word.len() > alphabet.order() || !alphabet.are_moves(word) {
         return 0;

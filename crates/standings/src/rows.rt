@@ -1,5 +1,5 @@
 // The row of a word at a node.
-ghost use Rattle.standings.specs.Questions.{Kept};
+ghost use Rattle.std.specs.Prelude.{◌≡◌};
 ghost use Rattle.standings.specs.Rows.{RowRead};
 
 use racks::Rack;
@@ -19,8 +19,8 @@ pub(crate) const WHOLE: u32 = 8;
 
 // The number in the row of the word at the node, 0 where the bytes are no word.
 pub fn row<R: Rack>(alphabet: &Alphabet, rack: &mut R, node: u8, word: &[u8]) -> u32
-    ensures answer { R.sound rack.old → RowRead alphabet.now.moves alphabet.now.order (R.view rack.old).number node word.now result }
-    ensures kept { Kept R.view R.sound R.unused rack.old rack.new }
+    ensures answer { RowRead alphabet.now.moves alphabet.now.order (R.view rack.old).number node word.now result }
+    ensures unaltered { R.view rack.new ≡ R.view rack.old }
 {
     let Some(code) = alphabet.code(word) else {
         return 0;

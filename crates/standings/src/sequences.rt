@@ -1,11 +1,12 @@
 // A route of the first child, then one of the second.
-ghost use Rattle.std.specs.Prelude.{◌≡◌, ◌+◌, ◌≤◌, length};
+ghost use Rattle.std.specs.Prelude.{◌≡◌, ◌+◌, length};
 ghost use Rattle.tree_laws.specs.Computed.{ors, front_bits, back_bits, cut_bits, sequence_standing};
-ghost use Rattle.standings.specs.Questions.{Asked};
+ghost use Rattle.standings.specs.Children.{by_rows, Unaltered};
+ghost use Rattle.standings.specs.Rows.{ShortMoves};
 
-use crate::rows::{BEGINS, CONTAINED, ENDS, WHOLE, row};
+use crate::children::Children;
+use crate::rows::{BEGINS, CONTAINED, ENDS, WHOLE};
 use racks::Rack;
-use windows::Alphabet;
 
 // What the standing of the front allows: its route goes to the end there, and may be whole.
 fn front(standing: u32) -> u32
@@ -23,33 +24,31 @@ fn back(standing: u32) -> u32
     beginning | beginning >> 1
 }
 
-// The word cut in two at each place, the front in the first child and the rest in the second.
-fn cuts<R: Rack>(alphabet: &Alphabet, rack: &mut R, first: u8, second: u8, word: &[u8]) -> u32
-    requires { length word.now ≤ 5 }
-    ensures { Asked R.view R.sound R.unused rack.old rack.new alphabet.now word.now (λ rows. result ≡ ors (cut_bits (rows first) (rows second) word.now) (length word.now + 1)) }
-{
-    let mut bits = 0;
-    for j in 0..word.len() + 1 {
-        let ending = row(alphabet, rack, first, &word[..j]);
-        let beginning = row(alphabet, rack, second, &word[j..]);
-        bits |= front(ending) & back(beginning);
+impl<R: Rack> Children<'_, R> {
+    // The word cut in two at each place, the front in the first child and the rest in the second.
+    #[tactic(auto, using(tree_laws::proofs::Bits::ors_more))]
+    fn cuts(&mut self, word: &[u8]) -> u32
+        requires { ShortMoves self.old.alphabet.now word.now }
+        ensures answer { result ≡ ors (by_rows R.view self.old cut_bits word.now) (length word.now + 1) }
+        ensures unaltered { Unaltered R.view self.old self.new }
+    {
+        let mut bits = 0;
+        for j in 0..=word.len() {
+            let (before, after) = word.split_at(j);
+            bits |= front(self.at_first(before)) & back(self.at_second(after));
+        }
+        bits
     }
-    bits
-}
 
-// In one child, or cut between the two.
-pub(crate) fn sequence<R: Rack>(
-    alphabet: &Alphabet,
-    rack: &mut R,
-    first: u8,
-    second: u8,
-    word: &[u8],
-) -> u32
-    requires { length word.now ≤ 5 }
-    ensures { Asked R.view R.sound R.unused rack.old rack.new alphabet.now word.now (λ rows. result ≡ sequence_standing (rows first) (rows second) word.now) }
-{
-    // A beginning of the first child is one of the sequence, and an end of the second its end.
-    let before = row(alphabet, rack, first, word) & (CONTAINED | BEGINS);
-    let after = row(alphabet, rack, second, word) & (CONTAINED | ENDS);
-    before | after | cuts(alphabet, rack, first, second, word)
+    // In one child, or cut between the two.
+    pub(crate) fn sequence(&mut self, word: &[u8]) -> u32
+        requires { ShortMoves self.old.alphabet.now word.now }
+        ensures answer { result ≡ by_rows R.view self.old sequence_standing word.now }
+        ensures unaltered { Unaltered R.view self.old self.new }
+    {
+        // A beginning of the first child is one of the sequence, and an end of the second its end.
+        let before = self.at_first(word) & (CONTAINED | BEGINS);
+        let after = self.at_second(word) & (CONTAINED | ENDS);
+        before | after | self.cuts(word)
+    }
 }

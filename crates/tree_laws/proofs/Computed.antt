@@ -145,12 +145,12 @@ record Short (n k : ℕ) (u : List ℕ) : Type 0 where
   moves : Moves n u
   short : length u ≤ k
 
-parts_all : (P : ℕ → Type 0) {x y w : List ℕ} → Interleaving x y w → All P w → All P x × All P y
+pub parts_all : (P : ℕ → Type 0) {x y w : List ℕ} → Interleaving x y w → All P w → All P x × All P y
 parts_all P none h = (All-nil P, All-nil P)
 parts_all P (from_left i) h = let r = parts_all P i (All-tail P _ _ h) in (All-cons P _ _ (All-head P _ _ h) r.0, r.1)
 parts_all P (from_right i) h = let r = parts_all P i (All-tail P _ _ h) in (r.0, All-cons P _ _ (All-head P _ _ h) r.1)
 
-parts_long : {x y w : List ℕ} → Interleaving x y w → length x + length y ≡ length w
+pub parts_long : {x y w : List ℕ} → Interleaving x y w → length x + length y ≡ length w
 parts_long none = refl
 parts_long (from_left i) = omega (arith, parts_long i)
 parts_long (from_right i) = omega (arith, parts_long i)
