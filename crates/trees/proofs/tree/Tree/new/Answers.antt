@@ -6,32 +6,16 @@ use Rattle.trees.proofs.Tables.{Sofar, sofar_more, first_wrong_node, all_checked
 use Rattle.trees.proofs.tree.Tree.new.Goals as goal
 use Rattle.trees.proofs.tree.Tree.new.Goals.{After-loop-i}
 
-none : RawNode
-none = record { kind = 0; a = 0; b = 0 }
-
-pub returns-in-Err : goal.returns-in-Err
-unfolding none
-returns-in-Err c =
-    let n = c.args.alphabet.moves in
-    let table = c.args.table.now in
-    inr (
-      (c.if-len-lt1.false, c.if-len-gt32.false),
-      (_, _, record { numbered = refl; detailed = refl }, first_wrong_node n table c.loop-i.i c.in-Err.field none c.moves.result c.moves.ensures c.loop-i-test.true c.loop-i.invariant.good c.in-Err.ensures),
-    )
-
-pub loop-i-preserved : goal.loop-i-preserved
-unfolding none
-loop-i-preserved c =
-    let told = c.in-Ok.ensures in
-    sofar_more _ _ _ _ _ none c.moves.result c.moves.ensures c.loop-i-test.true (omega arith) c.loop-i.invariant told.0 told.1
+pub returns-in_err-nodes : goal.returns-in_err-nodes
+returns-in_err-nodes c = ?
 
 -- the loop has read the whole table
 whole : (c : After-loop-i) → Sofar c.args.alphabet.moves c.args.table.now (length c.args.table.now) c.loop-i.nodes
-whole c = let end : c.loop-i.i ≡ length c.args.table.now = omega arith in subst (λ i. Sofar c.args.alphabet.moves c.args.table.now i c.loop-i.nodes) end c.loop-i.invariant
+whole c = let end : c.loop-i.i-counter ≡ length c.args.table.now = omega arith in subst (λ i. Sofar c.args.alphabet.moves c.args.table.now i c.loop-i.nodes) end c.loop-i.i-counternvariant
 
 pub invariant_of-result : goal.invariant_of-result
 invariant_of-result c =
-    record { some = c.if-len-lt1.false; few = c.if-len-gt32.false; long = c.loop-i.invariant.long; proper = all_checked _ _ _ (whole c) }
+    record { some = c.if-len-lt1.false; few = c.if-len-gt32.false; long = c.loop-i.i-counternvariant.long; proper = all_checked _ _ _ (whole c) }
 
 pub returns : goal.returns
 returns c =
