@@ -1,5 +1,5 @@
 -- The digit of an item, the code of a word, and which words have one.
-use Rattle.std.specs.Prelude.{◌≡◌, ℕ, ◌+◌, ◌≤◌, cond, ◌⊎◌, List, map, length, All, ◌==◌}
+use Rattle.std.specs.Prelude.{◌≡◌, ℕ, ◌+◌, ◌≤◌, if◌then◌else◌, ◌⊎◌, List, map, length, All, ◌==◌}
 use Rattle.std.specs.Int.Digits.{number_from_digits}
 use Rattle.terms.specs.Words.{Move, start_mark, end_mark}
 
@@ -17,11 +17,11 @@ base n = n + 3
 
 -- a move's digit is its number, the start mark's n + 1, the end mark's n + 2
 abbrev pub digit : ℕ → ℕ → ℕ
-digit n x = cond (x == start_mark) (n + 1) (cond (x == end_mark) (n + 2) x)
+digit n x = if x == start_mark then n + 1 else (if x == end_mark then n + 2 else x)
 
 -- the way back from a digit to its item
 abbrev pub item : ℕ → ℕ → ℕ
-item n d = cond (d == n + 1) start_mark (cond (d == n + 2) end_mark d)
+item n d = if d == n + 1 then start_mark else (if d == n + 2 then end_mark else d)
 
 -- the digits read in base n + 3, the first item highest
 abbrev pub code : ℕ → List ℕ → ℕ

@@ -1,5 +1,5 @@
 -- What moves, marks, marked lists, runs and windows are. A list of items is a list of bytes: a move is its number.
-use Rattle.std.specs.Prelude.{◌≡◌, ℕ, ◌+◌, ◌-◌, ◌<◌, ◌≤◌, cond, ◌⊎◌, List, [], ◌∷◌, ◌++◌, map, length, take, drop, All, nat_le, slice_index, slice_index_or}
+use Rattle.std.specs.Prelude.{◌≡◌, ℕ, ◌+◌, ◌-◌, ◌<◌, ◌≤◌, if◌then◌else◌, ◌⊎◌, List, [], ◌∷◌, ◌++◌, map, length, take, drop, All, nat_le, slice_index, slice_index_or}
 use Rattle.std.specs.List.{range_with_len}
 
 -- a book may have n moves and the order k
@@ -64,7 +64,7 @@ runs k w = map (run k w) (range_with_len 0 (length w + 1 - k))
 
 -- the windows of order k of a list, as a list
 abbrev pub windows : ℕ → List ℕ → List (List ℕ)
-windows k w = cond (nat_le (length w) k) (w ∷ []) (runs k w)
+windows k w = if nat_le (length w) k then w ∷ [] else runs k w
 
 -- u is a window of the list w
 abbrev pub WindowOf : ℕ → List ℕ → List ℕ → Type 0

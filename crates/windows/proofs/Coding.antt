@@ -1,13 +1,15 @@
--- The loops that work out a code from a word and a word from a code.
-use Rattle.std.proofs.Common.{◌≡◌, ℕ, ◌+◌, ◌-◌, ◌*◌, ◌/◌, ◌%◌, ◌^◌, ◌<◌, ◌≤◌, List, [], ◌∷◌, ◌++◌, map, length, get_or, take, drop, set, All, sym, ap, ◌∙◌, subst, append_assoc, append-nil, mod-lt, arith}
-use Rattle.std.proofs.lemmas.List.Elements.{All-nil, All-cons, All-more}
-use Rattle.std.specs.Int.Digits.{digits_of, number_from_digits}
-use Rattle.std.proofs.lemmas.Int.Digits.{digits_of_step, number_digits_of}
-use Rattle.std.proofs.lemmas.List.{length-take-le, length-drop, length-map, length-append, length-set, drop_all, drop-set}
+-- Codes of words with one item more, and the way back from a code.
+use Rattle.std.proofs.Common.{◌≡◌, ℕ, ◌+◌, ◌*◌, ◌/◌, ◌%◌, ◌^◌, ◌<◌, ◌≤◌, ◌≢◌, List, [], ◌∷◌, ◌++◌, length, get_or, take, All, Option, Some, None, MatchOption, sym, ap, ◌∙◌, subst, ⊎_elim, mod-lt, arith}
+use Rattle.std.proofs.Math.Nat.{div-add-mod, mul_comm}
+use lib.Arith.{digits_div, digits_mod}
+use Rattle.std.proofs.lemmas.List.Elements.{All-more, All-push}
+use Rattle.std.proofs.lemmas.List.{length-take-le, length_push}
 use Rattle.terms.specs.Codes.{Item, Word, base, digit, item, code}
-use Rattle.terms.proofs.Ends.{all_in_the_middle}
-use Rattle.terms.proofs.Codes.{Positive, positive, digit_item, digits_of_code, code_apart, code_below, code_longer, code_more, code_small}
+use Rattle.terms.proofs.Ends.{from_the_end, all_before_last}
+use Rattle.terms.proofs.Codes.{digit_item, digit_range, code_apart, code_below, code_longer, code_more, code_push, code_small}
 use Rattle.windows.specs.Promises.{Coded}
+use Rattle.windows.specs.Values.{word_items}
+use Rattle.windows.specs.declared.values.Word.{Word as Held}
 
 module _ (n : ℕ) (few : n ≤ 12) where
   module _ (w : List ℕ) (i : ℕ) (inside : i < length w) (short : length w ≤ 5) (items : All (Item n) (take i w)) (here : Item n (get_or w i 0)) where
@@ -28,65 +30,60 @@ module _ (n : ℕ) (few : n ≤ 12) where
         longer = λ v other l. subst (λ m. m < code n v) (sym is) (code_longer n few w v items other.items l);
       }
 
--- what is known while the digits of the code are taken off from the lowest
-pub record Sofar (n k c rest from : ℕ) (items : List ℕ) : Type 0 where
-  pub long : length items ≡ 5
-  pub low : from ≤ 5
-  pub few : 5 - from ≤ k
-  pub words : All (Item n) (drop from items)
-  pub digits : digits_of (base n) c ≡ digits_of (base n) rest ++ map (digit n) (drop from items)
+  module _ (k b c : ℕ) (same : b ≡ base n) (more : 0 < c) where
+    -- a word with the code c, without its last item
+    record Front (u : List ℕ) : Type 0 where
+      front : List ℕ
+      last : ℕ
+      split : u ≡ front ++ (last ∷ [])
+      word : Word n k front
+      is : code n front ≡ c / b
+      move : Item n last
+      low : digit n last ≡ c % b
 
-module _ (n k : ℕ) (most : n ≤ 12) where
-  pub sofar_none : (c : ℕ) (items : List ℕ) → length items ≡ 5 → Sofar n k c c 5 items
-  sofar_none c items long =
-      let none : drop 5 items ≡ [] = drop_all 5 items (omega arith) in
-      record {
-        long = long;
-        low = omega arith;
-        few = omega arith;
-        words = subst (All (Item n)) (sym none) (All-nil (Item n));
-        digits = sym (ap (λ l. digits_of (base n) c ++ map (digit n) l) none ∙ append-nil (digits_of (base n) c));
-      }
-
-  module _ (c rest from : ℕ) (items : List ℕ) (s : Sofar n k c rest from items) where
-    all_digits : 0 < rest → digits_of (base n) c ≡ digits_of (base n) (rest / base n) ++ (rest % base n ∷ map (digit n) (drop from items))
-    all_digits more =
-        s.digits ∙ ap (λ l. l ++ map (digit n) (drop from items)) (digits_of_step (base n) rest (omega arith) more) ∙ append_assoc (digits_of (base n) (rest / base n)) (rest % base n ∷ []) (map (digit n) (drop from items))
-
-    pub sofar_more : 0 < rest → 1 ≤ rest % base n → 5 - from < k → 1 ≤ from → Sofar n k c (rest / base n) (from - 1) (set items (from - 1) (item n (rest % base n)))
-    sofar_more more some room left =
-        let at = from - 1 in
-        let d = rest % base n in
-        let back : at + 1 ≡ from = omega arith in
-        let is = digit_item n most d some (mod-lt rest (omega arith)) in
-        let ends : drop at (set items at (item n d)) ≡ item n d ∷ drop from items = drop-set items at (item n d) (omega (arith, s.long)) ∙ ap (λ i. item n d ∷ drop i items) back in
+    front_of : (u : List ℕ) → Word n k u → code n u ≡ c → Front u
+    front_of u word e =
+        ⊎_elim
+        (λ none. absurd (omega (arith, e, ap (code n) none)))
+        (λ (v, x, split).
+        let parts = all_before_last (Item n) v x (subst (All (Item n)) split word.items) in
+        let sum : code n v * base n + digit n x ≡ c = sym (code_push n few v x) ∙ ap (code n) (sym split) ∙ e in
+        let small = (digit_range n few x parts.1).1 in
         record {
-          long = length-set items at (item n d) ∙ s.long;
-          low = omega (arith, s.low);
-          few = omega (arith, s.low);
-          words = subst (All (Item n)) (sym ends) (All-cons (Item n) _ _ is.0 s.words);
-          digits = all_digits more ∙ sym (ap (λ l. digits_of (base n) (rest / base n) ++ map (digit n) l) ends ∙ ap (λ y. digits_of (base n) (rest / base n) ++ (y ∷ map (digit n) (drop from items))) is.1);
-        }
+          front = v;
+          last = x;
+          split = split;
+          word = record { items = parts.0; short = omega (arith, word.short, ap length split ∙ length_push v x) };
+          is = rw same (sym (digits_div (code n v) small) ∙ ap (λ m. m / base n) sum);
+          move = parts.1;
+          low = rw same (sym (digits_mod (code n v) small) ∙ ap (λ m. m % base n) sum);
+        })
+        (from_the_end u)
 
-    digits_of_word : (u : List ℕ) → Word n k u → code n u ≡ c → 0 < rest → map (digit n) u ≡ digits_of (base n) (rest / base n) ++ (rest % base n ∷ map (digit n) (drop from items))
-    digits_of_word u word e more = sym (digits_of_code n most u word.items) ∙ ap (digits_of (base n)) e ∙ all_digits more
+    -- no word has the code where none has what is left without the lowest digit
+    pub nobody_front : ((v : List ℕ) → Word n k v → code n v ≢ c / b) → (u : List ℕ) → Word n k u → code n u ≢ c
+    nobody_front none u word e = let f = front_of u word e in none f.front f.word f.is
 
-    -- a digit 0 is no item's
-    pub nobody_zero : 0 < rest → rest % base n ≡ 0 → (u : List ℕ) → Word n k u → code n u ≡ c → ⊥
-    nobody_zero more zero u word e =
-        let digits = subst (Positive (base n)) (digits_of_word u word e more) (positive n most u word.items) in
-        omega (arith, (all_in_the_middle (λ d. (1 ≤ d) × (d < base n)) (digits_of (base n) (rest / base n)) (rest % base n) (map (digit n) (drop from items)) digits).0)
+    -- nor where the lowest digit is 0, which is no item's
+    pub nobody_zero : c % b ≡ 0 → (u : List ℕ) → Word n k u → code n u ≢ c
+    nobody_zero zero u word e = let f = front_of u word e in omega (arith, zero, f.low, digit_range n few f.last f.move)
 
-    -- and no word has more than k digits
-    pub nobody_long : 0 < rest → k ≤ 5 - from → (u : List ℕ) → Word n k u → code n u ≡ c → ⊥
-    nobody_long more full u word e =
-        let high = digits_of (base n) (rest / base n) in
-        let total = ap length (digits_of_word u word e more) ∙ length-append high (rest % base n ∷ map (digit n) (drop from items)) in
-        omega (arith, total, length-map u (digit n), length-map (drop from items) (digit n), length-drop from items, s.long, word.short)
+    -- nor where the word without the last item has k items already
+    pub nobody_long : (w : List ℕ) → Word n k w × (code n w ≡ c / b) → k ≤ length w → (u : List ℕ) → Word n k u → code n u ≢ c
+    nobody_long w front full u word e =
+        let f = front_of u word e in
+        let one : f.front ≡ w = code_apart n few f.front w f.word.items front.0.items (f.is ∙ sym front.1) in
+        omega (arith, word.short, ap length f.split ∙ length_push f.front f.last, ap length one)
 
-    pub whole_word : rest ≡ 0 → Word n k (drop from items) × (code n (drop from items) ≡ c)
-    whole_word none =
-        let digits : digits_of (base n) c ≡ map (digit n) (drop from items) = s.digits ∙ ap (λ r. digits_of (base n) r ++ map (digit n) (drop from items)) none in (
-          record { items = s.words; short = omega (arith, length-drop from items, s.long, s.few) },
-          sym (ap (number_from_digits (base n)) digits) ∙ number_digits_of (base n) c (omega arith),
+    pub one_more : (w : List ℕ) → Word n k w × (code n w ≡ c / b) → c % b ≢ 0 → length w < k → Word n k (w ++ (item n (c % b) ∷ [])) × (code n (w ++ (item n (c % b) ∷ [])) ≡ c)
+    one_more w front some room =
+        let d = c % b in
+        let at = digit_item n few d (omega arith) (subst (λ i. d < i) same (mod-lt c (omega (arith, same)))) in (
+          record { items = All-push (Item n) w (item n d) front.0.items at.0; short = omega (arith, length_push w (item n d)) },
+          code_push n few w (item n d) ∙ ap (λ y. code n w * base n + y) at.1 ∙ ap (λ i. code n w * i + d) (sym same) ∙ ap (λ y. y * b + d) front.1 ∙ ap (λ y. y + d) (mul_comm (c / b) b) ∙ div-add-mod c b,
         )
+
+-- what a pushed word has, where it was not full
+pub pushed_has : (P : List ℕ → Type 0) (N : Type 0) (r : Option Held) (w : List ℕ) (x : ℕ) → MatchOption r (length w ≡ 5) (λ v. word_items v ≡ w ++ (x ∷ [])) → length w < 5 → P (w ++ (x ∷ [])) → MatchOption r N (λ v. P (word_items v))
+pushed_has P N None w x full room has = absurd (omega arith)
+pushed_has P N (Some v) w x is room has = subst P (sym is) has

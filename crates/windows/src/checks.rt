@@ -1,29 +1,23 @@
 // What an alphabet accepts: its own numbers, and the moves of a play.
-ghost use Rattle.std.specs.Prelude.{◌≡◌, ◌≤◌, Decides, MatchOption, MatchResult};
+ghost use Rattle.std.specs.Prelude.{◌≡◌, ◌≤◌, ◌↔◌, IsTrue, MatchOption, MatchResult};
 ghost use Rattle.terms.specs.Words.{Moves, FirstWrong};
 ghost use Rattle.windows.specs.Promises.{Opens, PlayRead, PlayRefused};
 
 use crate::alphabet::Alphabet;
 use crate::values::Play;
-use crate::words::fill;
+use fixed_vec::FixedVec;
 use terms::Refusal;
 
 // The place, counted from 1, of the first item outside 1 to n.
-pub(crate) fn first_wrong(n: u8, items: &[u8]) -> Option<usize>
+fn first_wrong(n: u8, items: &[u8]) -> Option<usize>
     ensures { MatchOption result (Moves n items.now) (λ p. FirstWrong n items.now p) }
 {
     for (i, x) in items.iter().enumerate() {
-        if *x == 0 || *x > n {
+        if !(1..=n).contains(x) {
             return Some(i + 1);
         }
     }
     None
-}
-
-pub(crate) fn all_moves(n: u8, items: &[u8]) -> bool
-    ensures { Decides result (Moves n items.now) }
-{
-    first_wrong(n, items).is_none()
 }
 
 impl Alphabet {
@@ -31,13 +25,13 @@ impl Alphabet {
     pub fn new(moves: u16, order: u16) -> Result<Alphabet, Refusal>
         ensures { Opens moves order result }
     {
-        if moves < 1 || moves > 12 || order < 2 || order > 5 {
-            return Err(Refusal::Shut);
+        match (moves, order) {
+            (1..=12, 2..=5) => Ok(Alphabet {
+                moves: moves as u8,
+                order: usize::from(order),
+            }),
+            _ => Err(Refusal::Shut),
         }
-        Ok(Alphabet {
-            moves: moves as u8,
-            order: order as usize,
-        })
     }
 
     pub fn moves(&self) -> u8
@@ -48,9 +42,9 @@ impl Alphabet {
 
     // Whether each of these bytes is one of the moves 1 to n.
     pub fn are_moves(&self, items: &[u8]) -> bool
-        ensures { Decides result (Moves self.now.moves items.now) }
+        ensures { IsTrue result ↔ Moves self.now.moves items.now }
     {
-        all_moves(self.moves, items)
+        items.iter().all(|x| (1..=self.moves).contains(x))
     }
 
     pub fn order(&self) -> usize
@@ -69,11 +63,8 @@ impl Alphabet {
         if let Some(place) = first_wrong(self.moves, moves) {
             return Err(Refusal::WrongMove { place });
         }
-        let mut buffer = [0; 32];
-        fill(&mut buffer, moves);
         Ok(Play {
-            moves: buffer,
-            len: moves.len(),
+            moves: FixedVec::from_slice(moves),
         })
     }
 }

@@ -8,16 +8,6 @@ use crate::alphabet::Alphabet;
 use crate::marks::{END_MARK, START_MARK};
 use crate::values::Word;
 
-// The power of a base and an order that an alphabet may have.
-fn power(base: u32, order: usize) -> u32
-    requires low { base ≤ 15 }
-    requires high { order ≤ 5 }
-    ensures value { result ≡ base ^ order }
-    ensures bound { result ≤ 759375 }
-{
-    base.pow(order as u32)
-}
-
 impl Alphabet {
     // B, the base in which a word's digits are read.
     pub fn base(&self) -> u32
@@ -31,7 +21,7 @@ impl Alphabet {
         ensures value { result ≡ the_base self.now.moves ^ self.now.order }
         ensures bound { result ≤ 759375 }
     {
-        power(self.base(), self.order)
+        self.base().pow(self.order as u32)
     }
 
     // The digit of a move or a mark; nothing for any other byte.
@@ -41,12 +31,8 @@ impl Alphabet {
         match item {
             START_MARK => Some(self.moves + 1),
             END_MARK => Some(self.moves + 2),
-            _ => {
-                if item == 0 || item > self.moves {
-                    return None;
-                }
-                Some(item)
-            }
+            1.. if item <= self.moves => Some(item),
+            _ => None,
         }
     }
 
@@ -60,9 +46,7 @@ impl Alphabet {
         let base = self.base();
         let mut code = 0;
         for item in word {
-            let Some(digit) = self.digit(*item) else {
-                return None;
-            };
+            let digit = self.digit(*item)?;
             code = code * base + u32::from(digit);
         }
         Some(code)
@@ -88,20 +72,16 @@ impl Alphabet {
     pub fn word(&self, code: u32) -> Option<Word>
         ensures { MatchOption result ((u : List ℕ) → IsWord self.now.moves self.now.order u → the_code self.now.moves u ≢ code) (λ w. IsWord self.now.moves self.now.order (word_items w) × (the_code self.now.moves (word_items w) ≡ code)) }
     {
-        let base = self.base();
-        let mut items = [0; 5];
-        // The word's end stands in `items` from here on; its lowest digit comes first.
-        let mut from = 5;
-        let mut rest = code;
-        while rest > 0 {
-            let digit = rest % base;
-            if digit == 0 || 5 - from >= self.order {
-                return None;
-            }
-            from -= 1;
-            items[from] = self.item(digit);
-            rest /= base;
+        if code == 0 {
+            return Some(Word::empty());
         }
-        Some(Word::of(&items[from..5]))
+        let base = self.base();
+        // The lowest digit is the last item's.
+        let front = self.word(code / base)?;
+        let digit = code % base;
+        if digit == 0 || front.items().len() >= self.order {
+            return None;
+        }
+        front.pushed(self.item(digit))
     }
 }

@@ -10,4 +10,5 @@ mod values;
 mod words;
 
 pub use alphabet::Alphabet;
+pub use marks::{END_MARK, START_MARK};
 pub use values::{Cut, Play, Window, Word};

@@ -1,32 +1,26 @@
 // Making words and reading them.
-ghost use Rattle.std.specs.Prelude.{◌≡◌, ◌<◌, ◌≤◌, [], ◌∷◌, ◌++◌, length, take, drop, MatchOption};
+ghost use Rattle.std.specs.Prelude.{◌≡◌, ◌<◌, [], ◌∷◌, ◌++◌, length, take, MatchOption};
 ghost use Rattle.windows.specs.Values.{word_items};
 
 use crate::marks::{END_MARK, START_MARK};
 use crate::values::Word;
+use fixed_vec::FixedVec;
 use std::fmt;
 
-// Puts the items at the front of the buffer, and leaves the rest of it as it was.
-pub(crate) fn fill(buffer: &mut [u8], items: &[u8])
-    requires { length items.now ≤ length buffer.old }
-    ensures front { take (length items.now) buffer.new ≡ items.now }
-    ensures rest { buffer.new ≡ items.now ++ drop (length items.now) buffer.old }
-{
-    let n = items.len();
-    buffer[0..n].copy_from_slice(items);
-}
-
 impl Word {
-    // The word with these items, which are at most five.
-    pub(crate) fn of(items: &[u8]) -> Word
-        requires { length items.now ≤ 5 }
-        ensures { word_items result ≡ items.now }
+    // The word without items.
+    pub fn empty() -> Word
+        ensures { word_items result ≡ [] }
     {
-        let mut buffer = [0; 5];
-        fill(&mut buffer, items);
+        Word::default()
+    }
+
+    // The word with the first five of these items.
+    pub(crate) fn of(items: &[u8]) -> Word
+        ensures { word_items result ≡ take 5 items.now }
+    {
         Word {
-            items: buffer,
-            len: items.len(),
+            items: FixedVec::from_slice(items),
         }
     }
 
@@ -44,21 +38,18 @@ impl Word {
     pub fn pushed(&self, item: u8) -> Option<Word>
         ensures { MatchOption result (length (word_items self.now) ≡ 5) (λ w. word_items w ≡ word_items self.now ++ (item ∷ [])) }
     {
-        if self.len >= 5 {
+        if self.items().len() >= 5 {
             return None;
         }
-        let mut items = self.items;
-        items[self.len] = item;
-        Some(Word {
-            items,
-            len: self.len + 1,
-        })
+        let mut word = *self;
+        word.items.push(item);
+        Some(word)
     }
 
     pub fn items(&self) -> &[u8]
         ensures { result.now ≡ word_items self.now }
     {
-        &self.items[0..self.len]
+        self.items.as_slice()
     }
 }
 

@@ -1,8 +1,12 @@
-use Rattle.std.proofs.Common.{◌≡◌, map, length, take}
-use Rattle.std.specs.List.{range_with_len}
-use Rattle.terms.specs.Words.{run}
+use Rattle.std.proofs.Common.{◌≡◌, ◌++◌, map}
+use Rattle.std.specs.Slice.Iter.{windows_rest, windows_size}
+use Rattle.terms.specs.Words.{runs}
+use Rattle.fixed_vec.specs.Lists.{list_of}
 use Rattle.windows.specs.Values.{word_items}
 use Rattle.windows.proofs.cuts.all_runs.Given as goal
 
-abbrev pub invariant-loop-place : goal.invariant-loop-place
-invariant-loop-place l = (length l.windows ≡ 33) × (map word_items (take l.place l.windows) ≡ map (run l.order l.items) (range_with_len 0 l.place))
+abbrev pub invariant-loop-run : goal.invariant-loop-run
+invariant-loop-run l = record {
+  size : windows_size l.run-iterator ≡ l.order;
+  split : runs l.order l.items ≡ map word_items (list_of l.windows) ++ runs l.order (windows_rest l.run-iterator);
+}

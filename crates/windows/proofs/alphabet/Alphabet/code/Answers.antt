@@ -5,35 +5,35 @@ use Rattle.terms.specs.Codes.{Item, code}
 use Rattle.terms.proofs.Codes.{code_more}
 use Rattle.windows.proofs.Coding.{items_more, room_more, coded}
 use Rattle.windows.proofs.alphabet.Alphabet.code.Goals as goal
-use Rattle.windows.proofs.alphabet.Alphabet.code.Goals.{In-Some}
+use Rattle.windows.proofs.alphabet.Alphabet.code.Goals.{In_ok-digit}
 
 -- what the turn computes stays small
-small : (c : In-Some) → c.loop-item.code * c.base-base.result + c.in-Some.digit < 759375
+small : (c : In_ok-digit) → c.loop-item.code * c.base-base.result + c.in_ok-digit.digit < 759375
 small c =
     let a = c.args.self.now in
     let inv = c.loop-item.invariant in
-    let read = c.in-Some.ensures in
+    let read = c.in_ok-digit.ensures in
     let room = room_more a.moves a.few c.args.word.now c.loop-item.item-index c.loop-item-test.true (omega (arith, a.high)) inv.0 read.0 in
     rw (inv.1, c.base-base.ensures, read.1) room
 
 pub overflow_mul-code : goal.overflow_mul-code
-overflow_mul-code c = omega (arith, small (goal.at.overflow_mul-code c).In-Some)
+overflow_mul-code c = omega (arith, small (goal.at.overflow_mul-code c).In_ok-digit)
 
 pub overflow_add-code : goal.overflow_add-code
-overflow_add-code c = omega (arith, small (goal.at.overflow_add-code c).In-Some, c.from.ensures)
+overflow_add-code c = omega (arith, small (goal.at.overflow_add-code c).In_ok-digit, c.from.ensures)
 
 pub loop-item-preserved : goal.loop-item-preserved
 loop-item-preserved c =
     let a = c.args.self.now in
     let inv = c.loop-item.invariant in
-    let read = c.in-Some.ensures in
+    let read = c.in_ok-digit.ensures in
     let sum = code_more a.moves a.few c.args.word.now c.loop-item.item-index c.loop-item-test.true in (
       items_more a.moves a.few c.args.word.now c.loop-item.item-index c.loop-item-test.true (omega (arith, a.high)) inv.0 read.0,
       rw (inv.1, c.base-base.ensures, c.from.ensures, read.1) (sym sum),
     )
 
-pub returns-in_default : goal.returns-in_default
-returns-in_default c = λ word. c.in_default.ensures (All-get_or (Item c.args.self.now.moves) c.args.word.now c.loop-item.item-index 0 c.loop-item-test.true word.items)
+pub returns-in_err-digit : goal.returns-in_err-digit
+returns-in_err-digit c = rw c.from_residual.ensures (λ word. c.in_err-digit.ensures (All-get_or (Item c.args.self.now.moves) c.args.word.now c.loop-item.item-index 0 c.loop-item-test.true word.items))
 
 pub returns : goal.returns
 returns c =

@@ -1,24 +1,33 @@
-use Rattle.std.proofs.Common.{sym}
+use Rattle.std.proofs.Common.{sym, ◌∙◌, rules}
 use Rattle.std.proofs.lemmas.Bool.{true≢false}
-use Rattle.windows.proofs.Tests.{Found, window_from_test, test_from_window}
+use Rattle.windows.proofs.Tests.{Sized, front_from, back_from, window_from_test, test_from_window}
 use Rattle.windows.proofs.alphabet.Alphabet.is_window.Goals as goal
-use Rattle.windows.proofs.alphabet.Alphabet.is_window.Goals.{After-strip_end-ends}
+use Rattle.windows.proofs.alphabet.Alphabet.is_window.Goals.{then-len-moves, else-len-moves}
 
--- what the marks at both ends tell
-found : (c : After-strip_end-ends) → Found c.args.bytes.now c.strip_start-starts.result.0 c.strip_start-starts.result.1.now c.strip_end-ends.result.0 c.strip_end-ends.result.1.now
-found c = record { front = c.strip_start-starts.ensures; back = c.strip_end-ends.ensures }
-
-pub returns-then-not-sized : goal.returns-then-not-sized
-returns-then-not-sized c =
-    let a = c.args.self.now in (
-      λ e. absurd (true≢false (sym e)),
-      λ is. c.if-not-sized.ensures.1 (test_from_window a.moves a.order a.few a.low _ _ _ _ _ (found (goal.at.returns-then-not-sized c).After-strip_end-ends) is).0,
+pub returns-then-fits : goal.returns-then-fits
+returns-then-fits c =
+    let a = c.args.self.now in
+    let front = front_from _ _ _ c.strip_prefix.ensures.cases c.unwrap_or-rest.ensures in
+    let back = back_from _ _ _ c.strip_suffix.ensures.cases c.unwrap_or-moves.ensures in
+    let size : Sized a.order c.args.bytes.now c.unwrap_or-moves.result.now =
+    elim c.if-len-moves.branch [
+      | then-len-moves w ↦ record { both = λ _. search (rules, w.fits-is, c.if-fits.true); other = λ e. absurd (e w.if-len-moves.true) }
+      | else-len-moves w ↦ record { both = λ e. absurd (w.if-len-moves.false e); other = λ _. search (rules, w.fits-is, c.if-fits.true) }
+    ] in (
+      λ e. window_from_test a.moves a.order a.few a.low _ _ _ front back size (c.are_moves.ensures.0 e),
+      λ is. c.are_moves.ensures.1 (test_from_window a.moves a.order a.few a.low _ _ _ front back is).1,
     )
 
-pub returns : goal.returns
-returns c =
+pub returns-else-fits : goal.returns-else-fits
+returns-else-fits c =
     let a = c.args.self.now in
-    let f = found (goal.at.returns c).After-strip_end-ends in (
-      λ e. window_from_test a.moves a.order a.few a.low _ _ _ _ _ f (c.sized.ensures.0 c.if-not-sized.false) (c.all_moves.ensures.0 e),
-      λ is. c.all_moves.ensures.1 (test_from_window a.moves a.order a.few a.low _ _ _ _ _ f is).1,
+    let front = front_from _ _ _ c.strip_prefix.ensures.cases c.unwrap_or-rest.ensures in
+    let back = back_from _ _ _ c.strip_suffix.ensures.cases c.unwrap_or-moves.ensures in (
+      λ e. absurd (true≢false (sym e ∙ c.if-fits.false)),
+      λ is.
+          let size = (test_from_window a.moves a.order a.few a.low _ _ _ front back is).0 in
+          elim c.if-len-moves.branch [
+            | then-len-moves w ↦ let h = size.both w.if-len-moves.true in search (rules, w.fits-is, c.if-fits.false)
+            | else-len-moves w ↦ let h = size.other w.if-len-moves.false in search (rules, w.fits-is, c.if-fits.false)
+          ],
     )

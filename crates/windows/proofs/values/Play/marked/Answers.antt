@@ -1,15 +1,10 @@
-use Rattle.std.proofs.Common.{◌≡◌, length, ap, ◌∙◌, arith, length-append, length-set, rules}
+use Rattle.std.proofs.Common.{length, ◌≤◌, ap, ◌∙◌, ◌++◌, [], ◌∷◌, take, subst, sym}
+use Rattle.fixed_vec.proofs.Room.{room}
 use Rattle.terms.specs.Words.{marked}
-use Rattle.windows.proofs.Steps.{marks_around}
+use Rattle.windows.proofs.Cutting.{marks_around}
 use Rattle.windows.proofs.values.Play.marked.Goals as goal
 
 pub returns : goal.returns
 returns c =
-    let moves = c.moves.result.now in
-    let long : length moves ≡ c.args.self.now.len = search rules in
-    let room : length c.fill.new.buffer ≡ 32 = search rules in
-    record {
-      whole = marks_around c.fill.new.buffer moves _ long c.fill.ensures.front (omega arith) ∙ ap marked c.moves.ensures;
-      long = search rules;
-      roomy = simp (length-set, length-append) (omega arith);
-    }
+    let first = c.push.ensures ∙ ap (λ l. take 34 (l ++ (43 ∷ []))) c.new-items.ensures in
+    marks_around _ _ _ _ (subst (λ l. length l ≤ 32) (sym c.moves.ensures) (room c.args.self.now.moves)) first c.extend_from_slice.ensures c.push-2.ensures ∙ ap marked c.moves.ensures
