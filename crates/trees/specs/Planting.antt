@@ -1,6 +1,6 @@
 -- What a rack holds while a tree's rows are put in, and what each step starts from.
-use Rattle.std.specs.Prelude.{◌≡◌, ℕ, ◌+◌, ◌*◌, ◌^◌, ◌≤◌, List, length}
-use Rattle.terms.specs.Codes.{base, code}
+use Rattle.std.specs.Prelude.{◌≡◌, ℕ, ◌≤◌, List, length}
+use Rattle.terms.specs.Codes.{code}
 use Rattle.terms.specs.Words.{Moves}
 use Rattle.tree_laws.specs.Facts.{Standing}
 use Rattle.tree_laws.specs.declared.Node.{Node}

@@ -6,6 +6,7 @@ ghost use Rattle.trees.specs.Trees.{TreeRead, tree_nodes};
 
 use crate::raw::RawNode;
 use crate::tree::Tree;
+use fixed_vec::FixedVec;
 use terms::Refusal;
 use tree_laws::Node;
 use windows::Alphabet;
@@ -83,30 +84,28 @@ impl Tree {
     pub fn new(alphabet: Alphabet, table: &[RawNode]) -> Result<Tree, Refusal>
         ensures { MatchResult result (TreeRead alphabet table.now) (TableRefused alphabet.moves table.now) }
     {
-        let len = table.len();
-        if len < 1 || len > 32 {
+        if table.is_empty() || table.len() > 32 {
             return Err(Refusal::NodeCount);
         }
-        let mut nodes = [Node::Skip; 32];
+        let mut nodes = FixedVec::new();
         for (i, raw) in table.iter().enumerate() {
-            nodes[i] = check_node(alphabet.moves(), i as u8 + 1, *raw).map_err(|field| {
-                Refusal::WrongNode {
-                    node: i + 1,
-                    field: field.into(),
+            match check_node(alphabet.moves(), i as u8 + 1, *raw) {
+                Ok(node) => nodes.push(node),
+                Err(field) => {
+                    return Err(Refusal::WrongNode {
+                        node: i + 1,
+                        field: field.into(),
+                    });
                 }
-            })?;
+            }
         }
-        Ok(Tree {
-            alphabet,
-            nodes,
-            len,
-        })
+        Ok(Tree { alphabet, nodes })
     }
 
     // The nodes, the root last.
     pub fn nodes(&self) -> &[Node]
         ensures { result.now ≡ tree_nodes self.now }
     {
-        &self.nodes[0..self.len]
+        self.nodes.as_slice()
     }
 }

@@ -5,7 +5,7 @@ ghost use Rattle.terms.specs.Codes.{base, code as the_code};
 ghost use Rattle.terms.specs.Words.{Moves};
 ghost use Rattle.windows.specs.Values.{word_items};
 ghost use Rattle.trees.specs.Planting.{SameMemory, CodeOfMoves, Finished, Underway, NextWord};
-ghost use Rattle.trees.specs.Trees.{For};
+ghost use Rattle.trees.specs.Trees.{For, tree_nodes};
 
 use crate::tree::Tree;
 use racks::{Rack, next_before};
@@ -25,19 +25,19 @@ impl Tree {
 
     // Puts in the row of the word at the node after the first `m`.
     fn write_row<R: Rack>(&self, rack: &mut R, m: usize, word: &[u8]) -> Result<(), Refusal>
-        requires inside { m < self.now.len }
+        requires inside { m < length (tree_nodes self.now) }
         requires next { For self.now NextWord m word.now (R.view rack.old) }
         ensures rows { MatchResult result (λ _. For self.now Underway m (the_code self.now.alphabet.moves word.now + 1) (R.view rack.new)) (λ _. For self.now MoreRows (R.view rack.new).room) }
         ensures memory { SameMemory (R.view rack.old) (R.view rack.new) }
     {
-        let number = standing(&self.alphabet, self.nodes[m], rack, word);
+        let number = standing(&self.alphabet, self.nodes()[m], rack, word);
         let code = self.alphabet.code(word).unwrap();
         rack.write(self.start(m + 1) + code, number)
     }
 
     // Puts in the row of the word, if it can have one: a word that some route contains has a tail that some route contains.
     fn place<R: Rack>(&self, rack: &mut R, m: usize, word: &[u8]) -> Result<(), Refusal>
-        requires inside { m < self.now.len }
+        requires inside { m < length (tree_nodes self.now) }
         requires some { 0 < length word.now }
         requires next { For self.now NextWord m word.now (R.view rack.old) }
         ensures rows { MatchResult result (λ _. For self.now Underway m (the_code self.now.alphabet.moves word.now + 1) (R.view rack.new)) (λ _. For self.now MoreRows (R.view rack.new).room) }
@@ -61,7 +61,7 @@ impl Tree {
 
     // Tries every move behind the word with this code, which has fewer than k moves.
     fn extend<R: Rack>(&self, rack: &mut R, m: usize, parent: u32) -> Result<(), Refusal>
-        requires inside { m < self.now.len }
+        requires inside { m < length (tree_nodes self.now) }
         requires word { CodeOfMoves self.now.alphabet.moves self.now.alphabet.order parent }
         requires shorter { parent * base self.now.alphabet.moves < base self.now.alphabet.moves ^ self.now.alphabet.order }
         requires rows { For self.now Underway m (parent * base self.now.alphabet.moves + 1) (R.view rack.old) }
@@ -79,7 +79,7 @@ impl Tree {
     // Puts in the rows of the longer words. Each is found behind a shorter one, so a walk over the node's own rows
     // of fewer than k moves finds them all, in the order of their keys.
     fn write_longer<R: Rack>(&self, rack: &mut R, m: usize) -> Result<(), Refusal>
-        requires inside { m < self.now.len }
+        requires inside { m < length (tree_nodes self.now) }
         requires rows { For self.now Underway m 1 (R.view rack.old) }
         ensures rows { MatchResult result (λ _. For self.now Finished (m + 1) (R.view rack.new)) (λ _. For self.now MoreRows (R.view rack.new).room) }
         ensures memory { SameMemory (R.view rack.old) (R.view rack.new) }
@@ -97,7 +97,7 @@ impl Tree {
 
     // Puts in the rows of the node after the first `m`, that of the empty word first.
     fn write_node<R: Rack>(&self, rack: &mut R, m: usize) -> Result<(), Refusal>
-        requires inside { m < self.now.len }
+        requires inside { m < length (tree_nodes self.now) }
         requires rows { For self.now Finished m (R.view rack.old) }
         ensures rows { MatchResult result (λ _. For self.now Finished (m + 1) (R.view rack.new)) (λ _. For self.now MoreRows (R.view rack.new).room) }
         ensures memory { SameMemory (R.view rack.old) (R.view rack.new) }
@@ -109,10 +109,10 @@ impl Tree {
     // Puts in the rows of all nodes, children before their parents.
     pub(crate) fn write_nodes<R: Rack>(&self, rack: &mut R) -> Result<(), Refusal>
         requires { For self.now Finished 0 (R.view rack.old) }
-        ensures rows { MatchResult result (λ _. For self.now Finished self.now.len (R.view rack.new)) (λ _. For self.now MoreRows (R.view rack.new).room) }
+        ensures rows { MatchResult result (λ _. For self.now Finished (length (tree_nodes self.now)) (R.view rack.new)) (λ _. For self.now MoreRows (R.view rack.new).room) }
         ensures memory { SameMemory (R.view rack.old) (R.view rack.new) }
     {
-        for m in 0..self.len {
+        for m in 0..self.nodes().len() {
             self.write_node(rack, m)?;
         }
         Ok(())

@@ -27,7 +27,7 @@ impl Tree {
     pub fn key_limit(&self) -> u32
         ensures { result ≡ For self.now key_limit }
     {
-        self.start(self.len + 1)
+        self.start(self.nodes().len() + 1)
     }
 
     // Puts the tree's rows into the rack and answers how many windows are playable.

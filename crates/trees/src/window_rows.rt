@@ -1,21 +1,18 @@
 // The rows of the playable windows, by the standings of their moves at the root.
 ghost use Rattle.std.specs.Prelude.{◌≡◌, ◌+◌, ◌*◌, ◌^◌, ◌<◌, ◌≤◌, ◌↔◌, ◌∷◌, length, IsTrue, MatchOption, MatchResult};
+ghost use Rattle.terms.specs.Codes.{base};
 ghost use Rattle.terms.specs.Words.{start_mark};
 ghost use Rattle.row_laws.specs.Rows.{MoreRows};
 ghost use Rattle.row_laws.specs.Windowed.{with_marks, Fits, turn};
 ghost use Rattle.windows.specs.Values.{word_items};
 ghost use Rattle.trees.specs.Marks.{marks_number};
 ghost use Rattle.trees.specs.Planting.{SameMemory, CodeOfMoves, Finished, Windows, NextWindow, Complete};
-ghost use Rattle.trees.specs.Trees.{For};
+ghost use Rattle.trees.specs.Trees.{For, tree_nodes};
 
 use crate::tree::Tree;
 use racks::{Rack, next_before};
 use terms::Refusal;
-use windows::Word;
-
-const START_MARK: u8 = b'+';
-
-const END_MARK: u8 = b'-';
+use windows::{END_MARK, START_MARK, Word};
 
 // The marks of a window.
 #[derive(Clone, Copy, PartialEq, Eq, Debug)]
@@ -103,6 +100,14 @@ impl Tree {
         rack.write(code, 1)
     }
 
+    // Where the rows of the root begin.
+    fn root_start(&self) -> u32
+        ensures bound { result ≤ 25059375 }
+        ensures value { result ≡ length (tree_nodes self.now) * base self.now.alphabet.moves ^ self.now.alphabet.order }
+    {
+        self.start(self.nodes().len())
+    }
+
     // Puts in the windows around the word with this code.
     fn windows_around<R: Rack>(&self, rack: &mut R, code: u32) -> Result<(), Refusal>
         requires word { CodeOfMoves self.now.alphabet.moves self.now.alphabet.order code }
@@ -111,7 +116,7 @@ impl Tree {
         ensures memory { SameMemory (R.view rack.old) (R.view rack.new) }
     {
         let word = self.word(code);
-        let standing = rack.read(self.start(self.len) + code);
+        let standing = rack.read(self.root_start() + code);
         for marks in [Marks::Neither, Marks::Start, Marks::End, Marks::Both] {
             self.put_window(rack, word.items(), standing, marks)?;
         }
@@ -120,11 +125,11 @@ impl Tree {
 
     // Puts in all windows, by a walk over the root's rows.
     pub(crate) fn put_windows<R: Rack>(&self, rack: &mut R) -> Result<(), Refusal>
-        requires { For self.now Finished self.now.len (R.view rack.old) }
+        requires { For self.now Finished (length (tree_nodes self.now)) (R.view rack.old) }
         ensures rows { MatchResult result (λ _. For self.now Complete (R.view rack.new)) (λ _. For self.now MoreRows (R.view rack.new).room) }
         ensures memory { SameMemory (R.view rack.old) (R.view rack.new) }
     {
-        let start = self.start(self.len);
+        let start = self.root_start();
         let end = start + self.alphabet.code_limit();
         let mut from = 0;
         while let Some(key) = next_before(rack, start + from, end) {

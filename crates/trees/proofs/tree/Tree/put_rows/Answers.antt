@@ -1,10 +1,10 @@
-use Rattle.std.proofs.Common.{◌≡◌, ◌-◌, length, sym, ap, ◌∙◌, subst}
+use Rattle.std.proofs.Common.{◌≡◌, ◌-◌, sym, ap, ◌∙◌, subst}
 use Rattle.racks.specs.Views.{View, held_in}
 use Rattle.row_laws.specs.Rows.{PlayableCount}
-use Rattle.trees.specs.Planting.{Complete, Finished}
+use Rattle.trees.specs.Planting.{Complete}
 use Rattle.trees.specs.Trees.{tree_nodes}
 use Rattle.trees.proofs.Planting.{count_windows}
-use Rattle.trees.proofs.Trees.{tree_formed, tree_long}
+use Rattle.trees.proofs.Trees.{is_tree}
 use Rattle.trees.proofs.tree.Tree.put_rows.Goals as goal
 
 pub returns-clause-rows : goal.returns-clause-rows
@@ -17,8 +17,7 @@ returns-clause-rows g c =
     let nodes = g.R.Rack.view c.write_nodes.new.rack in
     let all = g.R.Rack.view c.put_windows.new.rack in
     let put = c.in_ok-put_windows.ensures in
-    let first : Finished n k t (length t) nodes = subst (λ m. Finished n k t m nodes) (sym (tree_long tree)) c.in_ok-write_nodes.ensures.rows in
     let count : c.saturating_sub.result ≡ held_in all - held_in nodes = c.saturating_sub.ensures ∙ (λ i. c.held-all.ensures.answer i - c.held-nodes.ensures.answer i) in (
       subst (Complete n k t) (sym c.held-all.ensures.unaltered) put.rows,
-      subst (PlayableCount t k) (sym count) (count_windows n k a.few t (tree_formed tree) a.low nodes all (put.memory.reach ∙ ap (λ (v : View). v.reach) c.held-nodes.ensures.unaltered) first put.rows),
+      subst (PlayableCount t k) (sym count) (count_windows (is_tree tree) nodes all (put.memory.reach ∙ ap (λ (v : View). v.reach) c.held-nodes.ensures.unaltered) c.in_ok-write_nodes.ensures.rows put.rows),
     )

@@ -1,12 +1,11 @@
-use Rattle.std.proofs.Common.{◌≡◌, ◌≤◌, length, sym, ap, ◌∙◌, subst, rules}
+use Rattle.std.proofs.Common.{◌≡◌, sym, ap, ◌∙◌, subst}
 use Rattle.std.proofs.lemmas.Bool.{some_since}
 use Rattle.terms.specs.Codes.{Word, code}
 use Rattle.windows.specs.Promises.{Coded}
 use Rattle.row_laws.specs.Windowed.{with_marks}
 use Rattle.row_laws.proofs.WithMarks.{with_marks_word}
 use Rattle.trees.specs.Marks.{marks_number}
-use Rattle.trees.specs.Trees.{tree_nodes}
-use Rattle.trees.proofs.Trees.{tree_formed, tree_some}
+use Rattle.trees.proofs.Trees.{is_tree}
 use Rattle.trees.proofs.WindowRows.{marks_four, bit_set, bit_unset, pass_window, window_written}
 use Rattle.trees.proofs.tree.Tree.put_window.Goals as goal
 
@@ -15,14 +14,14 @@ returns-then-standing-bit-eq0-clause-rows g c =
     let tree = c.args.self.now in
     let a = tree.alphabet in
     let i = marks_number c.args.marks in
-    pass_window a.moves a.order (tree_nodes tree) a.few a.low (tree_formed tree) (tree_some tree) c.args.word.now c.args.standing i (marks_four c.args.marks) _
+    pass_window (is_tree tree) c.args.word.now c.args.standing i (marks_four c.args.marks) _
     (λ fits. bit_unset c.args.standing i c.bit.result c.bit.ensures c.if-standing-bit-eq0.true) c.requires.next
 
 pub returns-in_default-clause-rows : goal.returns-in_default-clause-rows
 returns-in_default-clause-rows g c =
     let tree = c.args.self.now in
     let a = tree.alphabet in
-    pass_window a.moves a.order (tree_nodes tree) a.few a.low (tree_formed tree) (tree_some tree) c.args.word.now c.args.standing (marks_number c.args.marks) (marks_four c.args.marks) _
+    pass_window (is_tree tree) c.args.word.now c.args.standing (marks_number c.args.marks) (marks_four c.args.marks) _
     (λ fits. absurd (c.in_default.ensures fits)) c.requires.next
 
 pub unwrap-code-requires : goal.unwrap-code-requires
@@ -43,5 +42,5 @@ returns-clause-rows g c =
     let told = c.in-Some.ensures in
     let coded : Coded a.moves a.order c.items.result.now c.unwrap-code.result = rw c.unwrap-code.ensures at c.code.ensures in
     let key : c.unwrap-code.result ≡ code a.moves (with_marks i u) = coded.is ∙ ap (code a.moves) (c.items.ensures ∙ told.1) in
-    window_written a.moves a.order (tree_nodes tree) a.few a.low (tree_formed tree) (tree_some tree) u c.args.standing i (marks_four c.args.marks) c.unwrap-code.result key told.0
+    window_written (is_tree tree) u c.args.standing i (marks_four c.args.marks) c.unwrap-code.result key told.0
     (bit_set c.args.standing i c.bit.result c.bit.ensures c.if-standing-bit-eq0.false) _ _ c.requires.next c.write.result c.write.ensures.accepted c.write.ensures.after

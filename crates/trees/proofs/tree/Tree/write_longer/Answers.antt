@@ -1,9 +1,9 @@
-use Rattle.std.proofs.Common.{◌≡◌, ◌+◌, ◌-◌, ◌*◌, ◌/◌, ◌^◌, ◌<◌, ◌≤◌, length, sym, subst, arith}
+use Rattle.std.proofs.Common.{◌+◌, ◌-◌, ◌*◌, ◌/◌, sym, subst}
 use Rattle.terms.specs.Codes.{base}
-use Rattle.trees.specs.Planting.{CodeOfMoves, Finished, Underway}
+use Rattle.trees.specs.Planting.{Finished, Underway}
 use Rattle.trees.specs.Trees.{tree_nodes}
 use Rattle.trees.proofs.Planting.{walk_ends, walk_finds}
-use Rattle.trees.proofs.Trees.{tree_formed, tree_long}
+use Rattle.trees.proofs.Trees.{is_tree}
 use Rattle.trees.proofs.tree.Tree.write_longer.Goals as goal
 
 pub extend-requires : goal.extend-requires
@@ -16,7 +16,7 @@ extend-requires g c =
     let m = c.args.m in
     let before = g.R.Rack.view c.loop-key.rack in
     let inv = c.loop-key.invariant in
-    let (word, shorter, rows) = walk_finds n k a.few t (tree_formed tree) m (omega (arith, tree_long tree, c.requires.inside)) (omega (arith, a.low)) c.start-start.result _ c.loop-key.from c.start-start.ensures.value
+    let (word, shorter, rows) = walk_finds (is_tree tree) m c.requires.inside c.start-start.result _ c.loop-key.from c.start-start.ensures.value
     (λ i. c.start-start.result + c.code_limit.ensures.value i / c.base.ensures i) before inv.1 c.in-Some.key c.in-Some.ensures.answer in
     record { inside = c.requires.inside; word = word; shorter = shorter; rows = subst (Underway n k t m ((c.in-Some.key - c.start-start.result) * base n + 1)) (sym c.in-Some.ensures.unaltered) rows }
 
@@ -28,5 +28,5 @@ returns-clause-rows g c =
     let m = c.args.m in
     let inv = c.loop-key.invariant in
     subst (Finished a.moves a.order t (m + 1)) (sym c.in_default.ensures.unaltered)
-    (walk_ends a.moves a.order a.few t (tree_formed tree) m (omega (arith, tree_long tree, c.requires.inside)) (omega (arith, a.low)) c.start-start.result _ c.loop-key.from c.start-start.ensures.value
+    (walk_ends (is_tree tree) m c.requires.inside c.start-start.result _ c.loop-key.from c.start-start.ensures.value
     (λ i. c.start-start.result + c.code_limit.ensures.value i / c.base.ensures i) (g.R.Rack.view c.loop-key.rack) inv.1 inv.0 c.in_default.ensures.answer)

@@ -1,11 +1,9 @@
-use Rattle.std.proofs.Common.{◌≡◌}
-use Rattle.trees.specs.Trees.{tree_nodes}
 use Rattle.trees.proofs.Planting.{next_empty}
-use Rattle.trees.proofs.Trees.{tree_formed}
+use Rattle.trees.proofs.Trees.{is_tree}
 use Rattle.trees.proofs.tree.Tree.write_node.Goals as goal
 
 pub write_row-requires-clause-next : goal.write_row-requires-clause-next
 write_row-requires-clause-next g c =
     let tree = c.args.self.now in
     let a = tree.alphabet in
-    next_empty a.moves a.order a.few (tree_nodes tree) (tree_formed tree) c.args.m _ c.requires.rows
+    next_empty (is_tree tree) c.args.m _ c.requires.rows

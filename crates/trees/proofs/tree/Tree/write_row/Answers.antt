@@ -1,11 +1,13 @@
-use Rattle.std.proofs.Common.{◌≡◌, ◌+◌, ◌≤◌, length, sym, subst, arith}
+use Rattle.std.proofs.Common.{◌≡◌, ◌+◌, get_or, sym, subst}
 use Rattle.tree_laws.specs.Facts.{Standing}
+use Rattle.tree_laws.specs.Routes.{IsNode}
+use Rattle.tree_laws.specs.declared.Node.TheVariants.{Skip}
 use Rattle.row_laws.specs.Rows.{row_key}
 use Rattle.windows.specs.Promises.{Coded}
 use Rattle.trees.specs.Planting.{NextWord}
 use Rattle.trees.specs.Trees.{tree_nodes}
 use Rattle.trees.proofs.Planting.{stands_by_rows, row_written}
-use Rattle.trees.proofs.Trees.{tree_formed, tree_long, tree_node}
+use Rattle.trees.proofs.Trees.{is_tree, node_at}
 use Rattle.trees.proofs.tree.Tree.write_row.Goals as goal
 
 pub returns-clause-rows : goal.returns-clause-rows
@@ -23,6 +25,6 @@ returns-clause-rows g c =
     let key : c.start.result + c.unwrap-code.result ≡ row_key n k (m + 1) u = λ i. c.start.ensures.value i + coded.is i in
     let stands : Standing t (m + 1) u c.standing-number.result =
     subst (Standing t (m + 1) u) (sym (stood.answer next.moves next.short))
-    (stands_by_rows n k a.few t (tree_formed tree) m (g.R.Rack.view c.args.rack.now).number _ u (tree_node tree m _ c.requires.inside) next.underway.rows.standings next.moves next.short) in
-    row_written n k a.few t (tree_formed tree) m (omega (arith, tree_long tree, c.requires.inside)) u _ _ key _ _
+    (stands_by_rows (is_tree tree) m (g.R.Rack.view c.args.rack.now).number _ u (subst (λ l. IsNode t (m + 1) (get_or l m Skip)) (sym c.nodes.ensures) (node_at t m Skip c.requires.inside)) next.underway.rows.standings next.moves next.short) in
+    row_written (is_tree tree) m c.requires.inside u _ _ key _ _
     (subst (NextWord n k t m u) (sym stood.unaltered) next) stands c.write.result c.write.ensures.accepted c.write.ensures.after

@@ -1,10 +1,10 @@
-use Rattle.std.proofs.Common.{◌≡◌, ◌≤◌, sym, ap, ◌∙◌, subst, arith}
+use Rattle.std.proofs.Common.{◌≡◌, sym, ap, ◌∙◌, subst, arith}
 use Rattle.racks.specs.Views.{View, after_empty}
-use Rattle.row_laws.specs.Rows.{MoreRows, key_limit}
+use Rattle.row_laws.specs.Rows.{MoreRows}
 use Rattle.row_laws.proofs.Counted.{rows_fit}
 use Rattle.trees.specs.Planting.{SameMemory}
 use Rattle.trees.specs.Trees.{tree_nodes}
-use Rattle.trees.proofs.Trees.{tree_formed}
+use Rattle.trees.proofs.Trees.{is_tree}
 use Rattle.trees.proofs.tree.Tree.write_rows.Goals as goal
 
 pub returns : goal.returns
@@ -21,7 +21,7 @@ returns g c =
     let whole = c.in-Ok.ensures.rows in
     record {
       reaches = omega (arith, c.if-reach-key_limit.false, c.reach.ensures.answer, c.key_limit.ensures);
-      fits = λ more. rows_fit n k t a.few a.low (tree_formed tree) whole.0.rows after.reach (g.met.R.Rack.bounded c.put_rows.new.rack).within_room whole.0.reaches (subst (MoreRows n k t) (sym same.room) more);
+      fits = λ more. rows_fit n k t a.few a.low (is_tree tree).formed whole.0.rows after.reach (g.met.R.Rack.bounded c.put_rows.new.rack).within_room whole.0.reaches (subst (MoreRows n k t) (sym same.room) more);
       rows = whole.0.rows;
       playable = whole.1;
       same_memory = record { reach = same.reach; room = same.room; lent = same.lent };
