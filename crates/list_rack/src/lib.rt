@@ -1,12 +1,10 @@
 // A rack over a lent slice of rows, of which the first are held, ascending by key.
 #![tactic(auto)]
 
-ghost use Rattle.std.specs.Prelude.{◌≡◌, ℕ, ◌+◌, ◌-◌, ◌<◌, ◌≤◌, length, take, drop};
-ghost use Rattle.search.specs.Places.{Ascending, StandsAt, BelongsAt};
-ghost use Rattle.racks.specs.Memory.{Lent, lent, places_used};
-ghost use Rattle.racks.specs.Views.{Fresh, held_count, written};
-ghost use Rattle.list_rack.specs.declared.Row.{Row};
-ghost use Rattle.list_rack.specs.Rows.{Holds, Placed, row_key, number_in, EachRow, KeyFits, NumberFits, NumberHeld, list_reach, list_view};
+ghost use Rattle.std.specs.Prelude.{◌≡◌, ◌-◌, ◌<◌, [], ◌∷◌, ◌++◌, length, take, slice_index_or};
+ghost use Rattle.std.specs.List.{insert, remove};
+ghost use Rattle.racks.specs.Views.{held_count, places_used};
+ghost use Rattle.list_rack.specs.Rows.{Holds, Placed, row_key, no_row, number_in, list_reach, list_view, list_bounded, new_list};
 
 use racks::{MOST_PLACES, Rack};
 use search::{Keyed, find};
@@ -31,17 +29,13 @@ impl Keyed for Row {
 pub struct ListRack<'a> {
     rows: &'a mut [Row],
     len: u32,
-    ghost within: { len ≤ places_used (length rows.now) },
-    ghost ascending: { Ascending row_key (take len rows.now) },
-    ghost keys: { EachRow KeyFits (take len rows.now) },
-    ghost fitting: { EachRow NumberFits (take len rows.now) },
-    ghost holding: { EachRow NumberHeld (take len rows.now) },
+    ghost holds: { Holds rows.now len },
 }
 
 impl<'a> ListRack<'a> {
     // Empty, since no row is held; it writes to none of the rows.
     pub fn new(rows: &'a mut [Row]) -> ListRack<'a>
-        ensures fresh { Fresh (list_view result.rows.now result.len result.within result.keys result.fitting) list_reach (places_used (length rows.old)) }
+        ensures fresh { list_view result.rows.ghost_name result.rows.now result.len ≡ new_list rows.entry.ghost_name rows.old }
         ensures slice { result.rows.ghost_name ≡ rows.entry.ghost_name }
         ensures same { result.rows.now ≡ rows.old }
     {
@@ -52,8 +46,7 @@ impl<'a> ListRack<'a> {
     fn place(&self, key: u32) -> Result<usize, usize>
         ensures { Placed self.now.rows.now self.now.len key result }
     {
-        let len = self.len as usize;
-        find(&self.rows[0..len], u64::from(key))
+        find(&self.rows[..self.len as usize], u64::from(key))
     }
 
     // How many rows are held, which is how many keys are.
@@ -70,92 +63,29 @@ impl<'a> ListRack<'a> {
     {
         self.rows.len().min(MOST_PLACES) as u32
     }
-
-    // Puts in the row at the place where it belongs.
-    fn put_in(&mut self, place: usize, row: Row)
-        requires belongs { BelongsAt row_key (take self.old.len self.old.rows.now) row.key place }
-        requires roomy { self.old.len < places_used (length self.old.rows.now) }
-        requires fit { (KeyFits row) × (NumberHeld row) }
-        ensures numbers { (k : ℕ) → number_in (take self.new.len self.new.rows.now) k ≡ written (number_in (take self.old.len self.old.rows.now)) row.key row.number k }
-        ensures length { length self.new.rows.now ≡ length self.old.rows.now }
-        ensures memory { lent self.new.rows (places_used (length self.new.rows.now)) ≡ lent self.old.rows (places_used (length self.old.rows.now)) }
-    {
-        let ListRack { rows, len } = self;
-        insert(rows, *len as usize, place, row);
-        *len += 1;
-    }
-
-    // Takes out the row at the place.
-    fn take_out(&mut self, place: usize)
-        requires { place < self.old.len }
-        ensures numbers { (key : ℕ) → StandsAt row_key (take self.old.len self.old.rows.now) key place → (k : ℕ) → number_in (take self.new.len self.new.rows.now) k ≡ written (number_in (take self.old.len self.old.rows.now)) key 0 k }
-        ensures length { length self.new.rows.now ≡ length self.old.rows.now }
-        ensures memory { lent self.new.rows (places_used (length self.new.rows.now)) ≡ lent self.old.rows (places_used (length self.old.rows.now)) }
-    {
-        let ListRack { rows, len } = self;
-        remove(rows, *len as usize, place);
-        *len -= 1;
-    }
-
-    // Gives the row at the place another number.
-    fn renumber(&mut self, place: usize, number: u32)
-        requires { (place < self.old.len) × (0 < number) }
-        ensures numbers { (key : ℕ) → StandsAt row_key (take self.old.len self.old.rows.now) key place → (k : ℕ) → number_in (take self.new.len self.new.rows.now) k ≡ written (number_in (take self.old.len self.old.rows.now)) key number k }
-        ensures length { length self.new.rows.now ≡ length self.old.rows.now }
-        ensures memory { lent self.new.rows (places_used (length self.new.rows.now)) ≡ lent self.old.rows (places_used (length self.old.rows.now)) }
-    {
-        let ListRack { rows, len } = self;
-        replace(rows, *len as usize, place, number);
-    }
 }
 
-// Puts a row in at the place, and moves the held rows from there on one place up.
-fn insert(rows: &mut [Row], len: usize, place: usize, row: Row)
-    requires holds { Holds rows.old len }
-    requires roomy { len < places_used (length rows.old) }
-    requires belongs { BelongsAt row_key (take len rows.old) row.key place }
-    requires fit { (KeyFits row) × (NumberHeld row) }
-    ensures holds { Holds rows.new (len + 1) }
-    ensures numbers { (k : ℕ) → number_in (take (len + 1) rows.new) k ≡ written (number_in (take len rows.old)) row.key row.number k }
-    ensures beyond { drop (len + 1) rows.new ≡ drop (len + 1) rows.old }
-    ensures unused { drop (places_used (length rows.new)) rows.new ≡ drop (places_used (length rows.old)) rows.old }
+// Puts the row in at the place, and moves those from there on one place up; the last one is lost.
+fn insert(rows: &mut [Row], place: usize, row: Row)
+    requires { place < length rows.old }
+    ensures { rows.new ≡ insert (take (length rows.old - 1) rows.old) place row }
 {
-    rows[place..len + 1].rotate_right(1);
+    rows[place..].rotate_right(1);
     rows[place] = row;
 }
 
-// Takes out the row at the place, and moves the held rows after it one place down.
-fn remove(rows: &mut [Row], len: usize, place: usize)
-    requires holds { Holds rows.old len }
-    requires inside { place < len }
-    ensures holds { Holds rows.new (len - 1) }
-    ensures numbers { (key : ℕ) → StandsAt row_key (take len rows.old) key place → (k : ℕ) → number_in (take (len - 1) rows.new) k ≡ written (number_in (take len rows.old)) key 0 k }
-    ensures beyond { drop len rows.new ≡ drop len rows.old }
-    ensures unused { drop (places_used (length rows.new)) rows.new ≡ drop (places_used (length rows.old)) rows.old }
+// Takes out the row at the place, and moves those after it one place down; it comes to stand last.
+fn remove(rows: &mut [Row], place: usize)
+    requires { place < length rows.old }
+    ensures { rows.new ≡ remove rows.old place ++ slice_index_or rows.old place no_row ∷ [] }
 {
-    rows[place..len].rotate_left(1);
-}
-
-// Gives the row at the place another number.
-fn replace(rows: &mut [Row], len: usize, place: usize, number: u32)
-    requires holds { Holds rows.old len }
-    requires inside { (place < len) × (0 < number) }
-    ensures holds { Holds rows.new len }
-    ensures numbers { (key : ℕ) → StandsAt row_key (take len rows.old) key place → (k : ℕ) → number_in (take len rows.new) k ≡ written (number_in (take len rows.old)) key number k }
-    ensures beyond { drop len rows.new ≡ drop len rows.old }
-    ensures unused { drop (places_used (length rows.new)) rows.new ≡ drop (places_used (length rows.old)) rows.old }
-{
-    rows[place].number = number;
+    rows[place..].rotate_left(1);
 }
 
 impl Rack for ListRack<'_> {
-    ghost view = { λ s. list_view s.rows.now s.len s.within s.keys s.fitting };
+    ghost view = { λ s. list_view s.rows.ghost_name s.rows.now s.len };
 
-    ghost sound = { λ _. Unit {0} };
-
-    ghost Memory = { Lent Row };
-
-    ghost unused = { λ s. lent s.rows (places_used (length s.rows.now)) };
+    ghost bounded = { λ s. list_bounded s.rows.ghost_name s.rows.now s.len s.holds };
 
     fn reach(&mut self) -> u32 {
         u32::MAX
@@ -171,21 +101,17 @@ impl Rack for ListRack<'_> {
 
     fn read(&mut self, key: u32) -> u32 {
         match self.place(key) {
-            Ok(i) => self.rows[i].number,
+            Ok(place) => self.rows[place].number,
             Err(_) => 0,
         }
     }
 
     fn next(&mut self, from: u32) -> Option<u32> {
-        match self.place(from) {
-            Ok(_) => Some(from),
-            Err(i) => {
-                if i < self.len as usize {
-                    Some(self.rows[i].key)
-                } else {
-                    None
-                }
-            }
+        let (Ok(place) | Err(place)) = self.place(from);
+        if place < self.len as usize {
+            Some(self.rows[place].key)
+        } else {
+            None
         }
     }
 
@@ -193,22 +119,21 @@ impl Rack for ListRack<'_> {
         if key == u32::MAX {
             return Err(Refusal::BeyondReach);
         }
+        let row = Row { key, number };
         match self.place(key) {
-            Ok(i) => {
-                if number == 0 {
-                    self.take_out(i);
-                } else {
-                    self.renumber(i, number);
-                }
+            Ok(place) if number == 0 => {
+                remove(&mut self.rows[..self.len as usize], place);
+                self.len -= 1;
             }
-            Err(i) => {
-                if number != 0 {
-                    if self.held_rows() == self.places() {
-                        return Err(Refusal::NoRoom);
-                    }
-                    self.put_in(i, Row { key, number });
+            Ok(place) => self.rows[place] = row,
+            Err(place) if number != 0 => {
+                if self.held_rows() == self.places() {
+                    return Err(Refusal::NoRoom);
                 }
+                insert(&mut self.rows[..=self.len as usize], place, row);
+                self.len += 1;
             }
+            Err(_) => {}
         }
         Ok(())
     }

@@ -2,24 +2,27 @@
 use list_rack::{ListRack, Row};
 use racks::Rack;
 use table_rack::TableRack;
-use terms::Refusal;
+use terms::Refusal::{self, BeyondReach, NoRoom};
 
-// A question or a write, and the answer to it. A write that is accepted answers 0, else its refusal's number.
+// A question or a write, and the answer to it.
 #[derive(Clone, Copy)]
 enum Step {
     Reach(u32),
     Room(u32),
     Held(u32),
-    Read { key: u32, number: u32 },
-    Next { from: u32, key: Option<u32> },
-    Write { key: u32, number: u32, refusal: u8 },
-}
-
-fn refusal_number(answer: Result<(), Refusal>) -> u8 {
-    match answer {
-        Ok(()) => 0,
-        Err(refusal) => refusal.number(),
-    }
+    Read {
+        key: u32,
+        number: u32,
+    },
+    Next {
+        from: u32,
+        key: Option<u32>,
+    },
+    Write {
+        key: u32,
+        number: u32,
+        answer: Result<(), Refusal>,
+    },
 }
 
 fn answers<R: Rack>(rack: &mut R, step: Step) -> bool {
@@ -32,19 +35,17 @@ fn answers<R: Rack>(rack: &mut R, step: Step) -> bool {
         Step::Write {
             key,
             number,
-            refusal,
-        } => refusal_number(rack.write(key, number)) == refusal,
+            answer,
+        } => rack.write(key, number) == answer,
     }
 }
 
 // How many steps come out right before the first that does not.
 fn right_steps<R: Rack>(rack: &mut R, steps: &[Step]) -> usize {
-    for (i, step) in steps.iter().enumerate() {
-        if !answers(rack, *step) {
-            return i;
-        }
-    }
-    steps.len()
+    steps
+        .iter()
+        .take_while(|step| answers(rack, **step))
+        .count()
 }
 
 const TABLE_OF_THREE: [Step; 12] = [
@@ -54,27 +55,27 @@ const TABLE_OF_THREE: [Step; 12] = [
     Step::Write {
         key: 2,
         number: 8,
-        refusal: 0,
+        answer: Ok(()),
     },
     Step::Write {
         key: 3,
         number: 8,
-        refusal: 1,
+        answer: Err(BeyondReach),
     },
     Step::Write {
         key: 3,
         number: 0,
-        refusal: 1,
+        answer: Err(BeyondReach),
     },
     Step::Write {
         key: 1,
         number: 0,
-        refusal: 0,
+        answer: Ok(()),
     },
     Step::Write {
         key: 0,
         number: 4,
-        refusal: 0,
+        answer: Ok(()),
     },
     Step::Next {
         from: 1,
@@ -94,32 +95,32 @@ const LIST_OF_TWO: [Step; 14] = [
     Step::Write {
         key: 4294967295,
         number: 1,
-        refusal: 1,
+        answer: Err(BeyondReach),
     },
     Step::Write {
         key: 4294967294,
         number: 1,
-        refusal: 0,
+        answer: Ok(()),
     },
     Step::Write {
         key: 0,
         number: 2,
-        refusal: 0,
+        answer: Ok(()),
     },
     Step::Write {
         key: 9,
         number: 3,
-        refusal: 2,
+        answer: Err(NoRoom),
     },
     Step::Write {
         key: 9,
         number: 0,
-        refusal: 0,
+        answer: Ok(()),
     },
     Step::Write {
         key: 0,
         number: 5,
-        refusal: 0,
+        answer: Ok(()),
     },
     Step::Next {
         from: 0,
@@ -136,12 +137,12 @@ const LIST_OF_TWO: [Step; 14] = [
     Step::Write {
         key: 4294967294,
         number: 0,
-        refusal: 0,
+        answer: Ok(()),
     },
     Step::Write {
         key: 9,
         number: 3,
-        refusal: 0,
+        answer: Ok(()),
     },
     Step::Held(2),
 ];
@@ -152,7 +153,7 @@ const EMPTY_TABLE: [Step; 4] = [
     Step::Write {
         key: 0,
         number: 1,
-        refusal: 1,
+        answer: Err(BeyondReach),
     },
     Step::Next { from: 0, key: None },
 ];
@@ -162,12 +163,12 @@ const EMPTY_LIST: [Step; 4] = [
     Step::Write {
         key: 0,
         number: 1,
-        refusal: 2,
+        answer: Err(NoRoom),
     },
     Step::Write {
         key: 0,
         number: 0,
-        refusal: 0,
+        answer: Ok(()),
     },
     Step::Held(0),
 ];
@@ -177,9 +178,7 @@ fn table_edges(rt: HostRuntime) {
     let mut cells = [1u32, 2, 3];
     let mut rack = TableRack::new(&mut cells);
     assert_eq!(rt; right_steps(&mut rack, &TABLE_OF_THREE), 12);
-    assert_eq!(rt; cells[0], 4);
-    assert_eq!(rt; cells[1], 0);
-    assert_eq!(rt; cells[2], 8);
+    assert_eq!(rt; cells, [4, 0, 8]);
 }
 
 #[test]
@@ -187,9 +186,10 @@ fn list_edges(rt: HostRuntime) {
     let mut rows = [Row { key: 0, number: 0 }; 2];
     let mut rack = ListRack::new(&mut rows);
     assert_eq!(rt; right_steps(&mut rack, &LIST_OF_TWO), 14);
-    assert_eq!(rt; rows[0].key, 0);
-    assert_eq!(rt; rows[1].key, 9);
-    assert_eq!(rt; rows[1].number, 3);
+    assert_eq!(rt;
+        rows,
+        [Row { key: 0, number: 5 }, Row { key: 9, number: 3 }]
+    );
 }
 
 #[test]

@@ -22,4 +22,19 @@ impl Model {
             self.numbers[key as usize] = number;
         }
     }
+
+    // The smallest held key that is not below `from`.
+    pub(crate) fn next(&self, from: u32) -> Option<u32> {
+        (from..8).find(|key| self.numbers[*key as usize] != 0)
+    }
+
+    pub(crate) fn held(&self) -> usize {
+        self.numbers.iter().filter(|number| **number != 0).count()
+    }
+
+    pub(crate) fn sum(&self) -> u64 {
+        self.numbers
+            .iter()
+            .fold(0u64, |sum, number| sum.wrapping_add(u64::from(*number)))
+    }
 }

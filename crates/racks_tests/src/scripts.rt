@@ -24,40 +24,15 @@ const SCRIPT: [(u32, u32); 14] = [
     (2, 4294967295),
 ];
 
-fn next_in(model: &Model, from: u32) -> Option<u32> {
-    for key in from..8 {
-        if model.numbers[key as usize] != 0 {
-            return Some(key);
-        }
-    }
-    None
-}
-
-fn held_in(model: &Model) -> u32 {
-    let mut held = 0u32;
-    for number in &model.numbers {
-        held = held.wrapping_add(u32::from(*number != 0));
-    }
-    held
-}
-
-fn sum_of(model: &Model) -> u64 {
-    let mut sum = 0u64;
-    for number in &model.numbers {
-        sum = sum.wrapping_add(u64::from(*number));
-    }
-    sum
-}
-
 fn same_as<R: Rack>(rt: &impl Abort, rack: &mut R, model: &Model) {
     for key in 0..8u32 {
         assert_eq!(rt; rack.read(key), model.numbers[key as usize]);
-        assert_eq!(rt; rack.next(key), next_in(model, key));
+        assert_eq!(rt; rack.next(key), model.next(key));
     }
     assert_eq!(rt; rack.next(8), None);
-    assert_eq!(rt; rack.held(), held_in(model));
+    assert_eq!(rt; rack.held() as usize, model.held());
     assert_eq!(rt; rack.room(), 8);
-    assert_eq!(rt; total(rack), sum_of(model));
+    assert_eq!(rt; total(rack), model.sum());
 }
 
 fn follows_script<R: Rack>(rt: &impl Abort, rack: &mut R) -> Result<(), Fail> {
@@ -85,4 +60,16 @@ fn list_follows_script(rt: HostRuntime) -> Result<(), Fail> {
     let mut rows = [Row { key: 9, number: 9 }; 8];
     let mut rack = ListRack::new(&mut rows);
     follows_script(&rt, &mut rack)
+}
+
+// A lent rack is a rack too, and the rack below holds what was written through it.
+#[test]
+fn lent_rack_follows_script(rt: HostRuntime) -> Result<(), Fail> {
+    let mut rows = [Row { key: 9, number: 9 }; 8];
+    let mut rack = ListRack::new(&mut rows);
+    follows_script(&rt, &mut &mut rack)?;
+    let mut lent = &mut rack;
+    lent.write(3, 5)?;
+    assert_eq!(rt; rack.read(3), 5);
+    Ok(())
 }

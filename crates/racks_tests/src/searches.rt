@@ -27,20 +27,11 @@ fn keyed(value: u64) -> Probe {
 
 #[test]
 fn finds_places_and_asks_few(rt: HostRuntime) {
-    let records = [
-        keyed(2),
-        keyed(3),
-        keyed(5),
-        keyed(8),
-        keyed(9),
-        keyed(11),
-        keyed(12),
-    ];
+    let records = [2, 3, 5, 8, 9, 11, 12].map(keyed);
     assert_eq!(rt; find(&records, 10), Err(5));
-    let mut asked = 0u32;
-    for record in &records {
-        asked = asked.wrapping_add(record.asked.get());
-    }
+    let asked = records
+        .iter()
+        .fold(0u32, |sum, record| sum.wrapping_add(record.asked.get()));
     // Seven records are halved to three, one and none.
     assert_eq!(rt; asked, 3);
     assert_eq!(rt; find(&records, 1), Err(0));

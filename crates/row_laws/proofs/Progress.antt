@@ -14,7 +14,8 @@ use Rattle.tree_laws.specs.declared.Node.{Node}
 use Rattle.tree_laws.proofs.Computed.{standing_laws_lem, bits_at}
 use Rattle.tree_laws.proofs.Rows.{none_longer, none_around}
 use Rattle.tree_laws.specs.Computed.{has}
-use Rattle.racks.specs.Counts.{written_here, written_other, written_same}
+use Rattle.racks.proofs.Counts.{written_same}
+use Rattle.racks.specs.Counts.{written_here, written_other}
 use Rattle.racks.specs.Views.{written}
 use Rattle.row_laws.specs.Progress.{NodeKey, Upto, InProgress}
 use Rattle.row_laws.specs.Rows.{row_key, NodeRow}

@@ -4,6 +4,8 @@
 ghost use Rattle.std.specs.Prelude.{◌≡◌, ℕ, ◌<◌, ◌≤◌, length, IfOk, IfErr, MatchResult};
 ghost use Rattle.search.specs.Places.{Ascending, StandsAt, BelongsAt};
 
+use std::cmp::Ordering;
+
 // A record that tells the number by which it is ordered and found.
 pub trait Keyed {
     ghost key: { Self → ℕ };
@@ -22,14 +24,10 @@ pub fn find<R: Keyed>(records: &[R], wanted: u64) -> Result<usize, usize>
     let mut high = records.len();
     while low < high {
         let middle = low + (high - low) / 2;
-        let here = records[middle].tell_key();
-        if here == wanted {
-            return Ok(middle);
-        }
-        if here < wanted {
-            low = middle + 1;
-        } else {
-            high = middle;
+        match records[middle].tell_key().cmp(&wanted) {
+            Ordering::Less => low = middle + 1,
+            Ordering::Equal => return Ok(middle),
+            Ordering::Greater => high = middle,
         }
     }
     Err(low)

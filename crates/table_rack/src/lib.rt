@@ -1,10 +1,9 @@
 // A rack over a lent slice of numbers, indexed by key.
 #![tactic(auto)]
 
-ghost use Rattle.std.specs.Prelude.{◌≡◌, ℕ, ◌+◌, ◌<◌, ◌≤◌, length, drop, slice_set};
-ghost use Rattle.racks.specs.Memory.{Lent, lent, places_used};
-ghost use Rattle.racks.specs.Views.{Fresh, held_count, one_if_held, written};
-ghost use Rattle.table_rack.specs.Tables.{cell, CellsFit, table_view};
+ghost use Rattle.std.specs.Prelude.{◌≡◌, MatchOption};
+ghost use Rattle.racks.specs.Views.{NoneFrom, Smallest, one_if_held};
+ghost use Rattle.table_rack.specs.Tables.{cell, IsTable, table_view, table_bounded, new_table};
 
 use racks::{MOST_PLACES, Rack};
 use terms::Refusal;
@@ -15,20 +14,17 @@ pub struct TableRack<'a> {
     cells: &'a mut [u32],
     used: u32,
     held: u32,
-    ghost within: { used ≡ places_used (length cells.now) },
-    ghost counted: { held ≡ held_count (cell cells.now used) used },
-    ghost fitting: { CellsFit cells.now used },
+    ghost table: { IsTable cells.now used held },
 }
 
 impl<'a> TableRack<'a> {
     // Empties the places that it uses: at most the first 2^26 of the slice.
     pub fn new(cells: &'a mut [u32]) -> TableRack<'a>
-        ensures fresh { Fresh (table_view result.cells.now result.used result.within result.fitting) (places_used (length cells.old)) (places_used (length cells.old)) }
+        ensures fresh { table_view result.cells.ghost_name result.cells.now result.used ≡ new_table cells.entry.ghost_name cells.old }
         ensures slice { result.cells.ghost_name ≡ cells.entry.ghost_name }
-        ensures beyond { drop result.used result.cells.now ≡ drop result.used cells.old }
     {
         let used = cells.len().min(MOST_PLACES);
-        clear(cells, used);
+        cells[..used].fill(0);
         TableRack {
             cells,
             used: used as u32,
@@ -36,49 +32,25 @@ impl<'a> TableRack<'a> {
         }
     }
 
-    // The count of held keys once the number stands at the key, and what the cells then mean.
-    fn held_after(&self, key: u32, number: u32) -> u32
-        requires { key < self.now.used }
-        ensures counted { result ≡ held_count (cell (slice_set self.now.cells.now key number) self.now.used) self.now.used }
-        ensures fitting { CellsFit (slice_set self.now.cells.now key number) self.now.used }
-        ensures numbers { (k : ℕ) → cell (slice_set self.now.cells.now key number) self.now.used k ≡ written (cell self.now.cells.now self.now.used) key number k }
-        ensures beyond { drop self.now.used (slice_set self.now.cells.now key number) ≡ drop self.now.used self.now.cells.now }
-        ensures roomy { cell self.now.cells.now self.now.used key ≡ 0 → held_count (cell self.now.cells.now self.now.used) self.now.used < self.now.used }
+    // The first place from `from` on where a key is held.
+    fn first_held(&self, from: u32) -> Option<u32>
+        ensures { MatchOption result (NoneFrom (cell self.now.cells.now self.now.used) from) (λ k. Smallest (cell self.now.cells.now self.now.used) from k) }
     {
-        count_after(self.held, self.cells[key as usize], number)
+        (from..self.used).find(|key| self.cells[*key as usize] != 0)
     }
 }
 
-// Takes out the keys of the used cells.
-fn clear(cells: &mut [u32], used: usize)
-    requires { used ≤ length cells.old }
-    ensures numbers { (k : ℕ) → cell cells.new used k ≡ 0 }
-    ensures counted { 0 ≡ held_count (cell cells.new used) used }
-    ensures fitting { CellsFit cells.new used }
-    ensures beyond { drop used cells.new ≡ drop used cells.old }
+// How many keys a number holds: one, or none if it is 0.
+fn count_of(number: u32) -> u32
+    ensures { result ≡ one_if_held number }
 {
-    for key in 0..used {
-        cells[key] = 0;
-    }
-}
-
-// The count of held keys once a number takes the place of another.
-fn count_after(held: u32, before: u32, number: u32) -> u32
-    requires counted { one_if_held before ≤ held }
-    requires few { held ≤ 67108864 }
-    ensures { result + one_if_held before ≡ held + one_if_held number }
-{
-    held + u32::from(number != 0) - u32::from(before != 0)
+    u32::from(number != 0)
 }
 
 impl Rack for TableRack<'_> {
-    ghost view = { λ s. table_view s.cells.now s.used s.within s.fitting };
+    ghost view = { λ s. table_view s.cells.ghost_name s.cells.now s.used };
 
-    ghost sound = { λ _. Unit {0} };
-
-    ghost Memory = { Lent ℕ };
-
-    ghost unused = { λ s. lent s.cells s.used };
+    ghost bounded = { λ s. table_bounded s.cells.ghost_name s.cells.now s.used s.held s.table };
 
     fn reach(&mut self) -> u32 {
         self.used
@@ -102,29 +74,21 @@ impl Rack for TableRack<'_> {
     }
 
     fn next(&mut self, from: u32) -> Option<u32> {
-        let mut key = from;
-        while key < self.used {
-            if self.cells[key as usize] != 0 {
-                return Some(key);
-            }
-            key += 1;
-        }
-        None
+        self.first_held(from)
     }
 
     fn write(&mut self, key: u32, number: u32) -> Result<(), Refusal> {
         if key >= self.used {
             return Err(Refusal::BeyondReach);
         }
-        let held = self.held_after(key, number);
+        let before = self.cells[key as usize];
         self.cells[key as usize] = number;
-        self.held = held;
+        self.held = self.held + count_of(number) - count_of(before);
         Ok(())
     }
 
     fn empty(&mut self) {
-        for key in 0..self.used {
-            let _ = self.write(key, 0);
-        }
+        self.cells[..self.used as usize].fill(0);
+        self.held = 0;
     }
 }

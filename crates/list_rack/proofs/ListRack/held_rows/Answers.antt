@@ -1,11 +1,7 @@
-use Rattle.std.proofs.Common.{refl, arith}
 use Rattle.list_rack.proofs.Rows.{count_held}
 use Rattle.list_rack.proofs.ListRack.held_rows.Goals as goal
 
-pub returns : goal.returns
-returns c =
+pub returns-clause-counted : goal.returns-clause-counted
+returns-clause-counted c =
     let s = c.args.self.now in
-    record {
-      counted = count_held s.rows.now s.len (omega arith) s.ascending s.keys s.holding;
-      len = refl;
-    }
+    count_held s.rows.now s.len s.holds

@@ -1,5 +1,5 @@
 use Rattle.std.proofs.Common.{◌≡◌, refl, subst, sym, ap, ◌∙◌, arith}
-use Rattle.racks.specs.Counts.{sum_below_zero, sum_below_next, sum_below_none}
+use Rattle.racks.proofs.Counts.{sum_below_zero, sum_below_next, sum_below_none}
 use Rattle.racks.specs.Views.{View, Smallest, NoneFrom}
 use Rattle.racks.proofs.Reach.{held_below}
 use Rattle.racks.proofs.walks.total.Goals as goal
