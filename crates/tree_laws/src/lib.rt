@@ -5,9 +5,10 @@ ghost use Rattle.tree_laws.specs.Laws.{ChoiceLaws, SequenceLaws, LoopLaws, Paral
 ghost use Rattle.tree_laws.specs.Standings.{ComputedLaws, StandingLaws};
 
 // A node of a table. Children are node numbers, counted from 1.
-#[derive(Clone, Copy, PartialEq, Eq, Debug)]
+#[derive(Clone, Copy, PartialEq, Eq, Debug, Default)]
 pub enum Node {
     // The empty route alone.
+    #[default]
     Skip,
     // The route of one move.
     Move(u8),

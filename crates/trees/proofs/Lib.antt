@@ -1,5 +1,4 @@
 pub mod Tables
 pub mod Trees
 pub mod Planting
-pub mod Steps
 pub mod WindowRows

@@ -1,6 +1,6 @@
--- What the type of a tree tells of its table.
-use Rattle.std.proofs.Common.{◌≡◌, ℕ, ◌+◌, ◌-◌, ◌<◌, ◌≤◌, length, get_or, ap, ◌∙◌, arith}
-use Rattle.std.proofs.lemmas.List.{get_or-take, get_or_default, length-take-le}
+-- What the type of a tree tells of its alphabet and its table.
+use Rattle.std.proofs.Common.{◌≡◌, ℕ, ◌+◌, ◌-◌, ◌<◌, ◌≤◌, List, length, get_or, ap, ◌∙◌, arith}
+use Rattle.std.proofs.lemmas.List.{get_or_default}
 use Rattle.tree_laws.proofs.Checked.{well_formed}
 use Rattle.tree_laws.specs.Routes.{IsNode, WellFormed}
 use Rattle.tree_laws.specs.declared.Node.{Node}
@@ -8,20 +8,22 @@ use Rattle.tree_laws.specs.declared.Node.TheVariants.{Skip}
 use Rattle.trees.specs.Trees.{tree_nodes}
 use Rattle.trees.specs.declared.tree.Tree.{Tree}
 
-pub tree_formed : (t : Tree) → WellFormed t.alphabet.moves (tree_nodes t)
-tree_formed t = well_formed t.alphabet.moves (tree_nodes t) t.proper
+-- what the lemmas on rows ask of an alphabet and a table
+pub record IsTree (n k : ℕ) (t : List Node) : Type 0 where
+  pub few : n ≤ 12
+  pub wide : 2 ≤ k
+  pub high : k ≤ 5
+  pub some : 1 ≤ length t
+  pub formed : WellFormed n t
 
-pub tree_long : (t : Tree) → length (tree_nodes t) ≡ t.len
-tree_long t = length-take-le t.len t.nodes (omega (arith, t.few, t.long))
+pub is_tree : (t : Tree) → IsTree t.alphabet.moves t.alphabet.order (tree_nodes t)
+is_tree t = record { few = t.alphabet.few; wide = t.alphabet.low; high = t.alphabet.high; some = t.some; formed = well_formed t.alphabet.moves (tree_nodes t) t.proper }
 
-pub tree_some : (t : Tree) → 1 ≤ length (tree_nodes t)
-tree_some t = omega (arith, t.some, tree_long t)
-
-pub tree_node : (t : Tree) (m : ℕ) (d : Node) → m < t.len → IsNode (tree_nodes t) (m + 1) (get_or t.nodes m d)
-tree_node t m d inside =
+pub node_at : (t : List Node) (m : ℕ) (d : Node) → m < length t → IsNode t (m + 1) (get_or t m d)
+node_at t m d inside =
     let back : m + 1 - 1 ≡ m = omega arith in
     record {
       from_one = omega arith;
-      inside = omega (arith, tree_long t);
-      kind = ap (λ i. get_or (tree_nodes t) i Skip) back ∙ get_or-take t.len t.nodes m Skip inside ∙ get_or_default t.nodes m Skip d (omega (arith, t.few, t.long));
+      inside = omega arith;
+      kind = ap (λ i. get_or t i Skip) back ∙ get_or_default t m Skip d inside;
     }

@@ -1,3 +1,5 @@
+pub mod Fields
+pub mod Marks
 pub mod Tables
 pub mod Trees
 pub mod Planting

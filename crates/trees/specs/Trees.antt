@@ -1,5 +1,6 @@
 -- What a tree stands for: its table of nodes.
-use Rattle.std.specs.Prelude.{◌≡◌, ℕ, List, map, length, take}
+use Rattle.std.specs.Prelude.{◌≡◌, ℕ, List, map, length}
+use Rattle.fixed_vec.specs.Lists.{list_of}
 use Rattle.tree_laws.specs.declared.Node.{Node}
 use Rattle.trees.specs.Tables.{AllGood, NodeCountAllowed, node_of}
 use Rattle.trees.specs.declared.raw.RawNode.{RawNode}
@@ -7,7 +8,7 @@ use Rattle.trees.specs.declared.tree.Tree.{Tree}
 use Rattle.windows.specs.declared.alphabet.Alphabet.{Alphabet}
 
 abbrev pub tree_nodes : Tree → List Node
-tree_nodes t = take t.len t.nodes
+tree_nodes t = list_of t.nodes
 
 -- a statement about n moves, the order k and a table of nodes, for those of the tree
 abbrev pub For {ℓ} : {X : Type ℓ} → Tree → (ℕ → ℕ → List Node → X) → X

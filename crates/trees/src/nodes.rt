@@ -1,100 +1,106 @@
 // The rows of the nodes: for each node, those of the words that some route contains, in the order of their codes.
-ghost use Rattle.std.specs.Prelude.{◌≡◌, ◌+◌, ◌*◌, ◌^◌, ◌<◌, ◌≤◌, length};
+ghost use Rattle.std.specs.Prelude.{◌≡◌, ◌+◌, ◌-◌, ◌*◌, ◌^◌, ◌<◌, ◌≤◌, length, MatchResult};
 ghost use Rattle.row_laws.specs.Rows.{MoreRows};
-ghost use Rattle.terms.specs.Codes.{base, code};
-ghost use Rattle.trees.specs.Planting.{Step, Finished, Underway, NextWord, NextParent};
-ghost use Rattle.trees.specs.Trees.{For};
+ghost use Rattle.terms.specs.Codes.{base, code as the_code};
+ghost use Rattle.terms.specs.Words.{Moves};
+ghost use Rattle.windows.specs.Values.{word_items};
+ghost use Rattle.trees.specs.Planting.{SameMemory, CodeOfMoves, Finished, Underway, NextWord};
+ghost use Rattle.trees.specs.Trees.{For, tree_nodes};
 
 use crate::tree::Tree;
-use racks::Rack;
+use racks::{Rack, next_before};
 use standings::{row, standing};
 use terms::Refusal;
+use windows::Word;
 
 impl Tree {
-    // Where the rows of the node after the first `m` begin.
-    fn start(&self, m: usize) -> u32
-        requires { m < 32 }
-        ensures bound { result ≤ 24300000 }
-        ensures value { result ≡ (m + 1) * base self.now.alphabet.moves ^ self.now.alphabet.order }
+    // Where the rows of the node with this number begin, or those of all nodes end.
+    pub(crate) fn start(&self, node: usize) -> u32
+        requires { node ≤ 33 }
+        ensures bound { result ≤ 25059375 }
+        ensures value { result ≡ node * base self.now.alphabet.moves ^ self.now.alphabet.order }
     {
-        (m as u32 + 1) * self.alphabet.code_limit()
+        node as u32 * self.alphabet.code_limit()
     }
 
     // Puts in the row of the word at the node after the first `m`.
     fn write_row<R: Rack>(&self, rack: &mut R, m: usize, word: &[u8]) -> Result<(), Refusal>
-        requires { m < self.now.len }
-        ensures { Step R.view R.sound R.unused rack.old rack.new (For self.now MoreRows) (For self.now NextWord m word.now) (For self.now Underway m (code self.now.alphabet.moves word.now + 1)) result }
+        requires inside { m < length (tree_nodes self.now) }
+        requires next { For self.now NextWord m word.now (R.view rack.old) }
+        ensures rows { MatchResult result (λ _. For self.now Underway m (the_code self.now.alphabet.moves word.now + 1) (R.view rack.new)) (λ _. For self.now MoreRows (R.view rack.new).room) }
+        ensures memory { SameMemory (R.view rack.old) (R.view rack.new) }
     {
-        let number = standing(&self.alphabet, self.nodes[m], rack, word);
-        let Some(code) = self.alphabet.code(word) else {
-            return Ok(());
-        };
-        rack.write(self.start(m) + code, number)
+        let number = standing(&self.alphabet, self.nodes()[m], rack, word);
+        let code = self.alphabet.code(word).unwrap();
+        rack.write(self.start(m + 1) + code, number)
     }
 
     // Puts in the row of the word, if it can have one: a word that some route contains has a tail that some route contains.
     fn place<R: Rack>(&self, rack: &mut R, m: usize, word: &[u8]) -> Result<(), Refusal>
-        requires inside { m < self.now.len }
+        requires inside { m < length (tree_nodes self.now) }
         requires some { 0 < length word.now }
-        ensures { Step R.view R.sound R.unused rack.old rack.new (For self.now MoreRows) (For self.now NextWord m word.now) (For self.now Underway m (code self.now.alphabet.moves word.now + 1)) result }
+        requires next { For self.now NextWord m word.now (R.view rack.old) }
+        ensures rows { MatchResult result (λ _. For self.now Underway m (the_code self.now.alphabet.moves word.now + 1) (R.view rack.new)) (λ _. For self.now MoreRows (R.view rack.new).room) }
+        ensures memory { SameMemory (R.view rack.old) (R.view rack.new) }
     {
-        let Some((_, tail)) = word.split_first() else {
-            return Ok(());
-        };
-        if row(&self.alphabet, rack, m as u8 + 1, tail) == 0 {
+        if row(&self.alphabet, rack, m as u8 + 1, &word[1..]) == 0 {
             return Ok(());
         }
         self.write_row(rack, m, word)
     }
 
-    // Tries every move behind the word with this code, which has a row.
-    fn extend<R: Rack>(&self, rack: &mut R, m: usize, parent: u32) -> Result<(), Refusal>
-        requires { m < self.now.len }
-        ensures { Step R.view R.sound R.unused rack.old rack.new (For self.now MoreRows) (For self.now NextParent m parent) (For self.now Underway m ((parent + 1) * base self.now.alphabet.moves + 1)) result }
+    // The word of moves with this code.
+    pub(crate) fn word(&self, code: u32) -> Word
+        requires { CodeOfMoves self.now.alphabet.moves self.now.alphabet.order code }
+        ensures moves { Moves self.now.alphabet.moves (word_items result) }
+        ensures short { length (word_items result) ≤ self.now.alphabet.order }
+        ensures code { the_code self.now.alphabet.moves (word_items result) ≡ code }
     {
-        let Some(word) = self.alphabet.word(parent) else {
-            return Ok(());
-        };
-        if word.items().len() >= self.alphabet.order() {
-            return Ok(());
-        }
+        self.alphabet.word(code).unwrap()
+    }
+
+    // Tries every move behind the word with this code, which has fewer than k moves.
+    fn extend<R: Rack>(&self, rack: &mut R, m: usize, parent: u32) -> Result<(), Refusal>
+        requires inside { m < length (tree_nodes self.now) }
+        requires word { CodeOfMoves self.now.alphabet.moves self.now.alphabet.order parent }
+        requires shorter { parent * base self.now.alphabet.moves < base self.now.alphabet.moves ^ self.now.alphabet.order }
+        requires rows { For self.now Underway m (parent * base self.now.alphabet.moves + 1) (R.view rack.old) }
+        ensures rows { MatchResult result (λ _. For self.now Underway m ((parent + 1) * base self.now.alphabet.moves + 1) (R.view rack.new)) (λ _. For self.now MoreRows (R.view rack.new).room) }
+        ensures memory { SameMemory (R.view rack.old) (R.view rack.new) }
+    {
+        let word = self.word(parent);
         for x in 1..self.alphabet.moves() + 1 {
-            let Some(longer) = word.pushed(x) else {
-                return Ok(());
-            };
+            let longer = word.pushed(x).unwrap();
             self.place(rack, m, longer.items())?;
         }
         Ok(())
     }
 
     // Puts in the rows of the longer words. Each is found behind a shorter one, so a walk over the node's own rows
-    // finds them all, in the order of their keys.
+    // of fewer than k moves finds them all, in the order of their keys.
     fn write_longer<R: Rack>(&self, rack: &mut R, m: usize) -> Result<(), Refusal>
-        requires { m < self.now.len }
-        ensures { Step R.view R.sound R.unused rack.old rack.new (For self.now MoreRows) (For self.now Underway m 1) (For self.now Finished (m + 1)) result }
+        requires inside { m < length (tree_nodes self.now) }
+        requires rows { For self.now Underway m 1 (R.view rack.old) }
+        ensures rows { MatchResult result (λ _. For self.now Finished (m + 1) (R.view rack.new)) (λ _. For self.now MoreRows (R.view rack.new).room) }
+        ensures memory { SameMemory (R.view rack.old) (R.view rack.new) }
     {
-        let base = self.alphabet.base();
-        let limit = self.alphabet.code_limit();
-        let start = self.start(m);
+        let start = self.start(m + 1);
+        let end = start + self.alphabet.code_limit() / self.alphabet.base();
         let mut from = 0;
-        while from * base < limit {
-            let Some(key) = rack.next(start + from) else {
-                return Ok(());
-            };
-            // A sound rack answers no key below the one asked for.
-            if key < start + from || key >= start + limit {
-                return Ok(());
-            }
-            self.extend(rack, m, key - start)?;
-            from = key - start + 1;
+        while let Some(key) = next_before(rack, start + from, end) {
+            let code = key - start;
+            self.extend(rack, m, code)?;
+            from = code + 1;
         }
         Ok(())
     }
 
     // Puts in the rows of the node after the first `m`, that of the empty word first.
     fn write_node<R: Rack>(&self, rack: &mut R, m: usize) -> Result<(), Refusal>
-        requires { m < self.now.len }
-        ensures { Step R.view R.sound R.unused rack.old rack.new (For self.now MoreRows) (For self.now Finished m) (For self.now Finished (m + 1)) result }
+        requires inside { m < length (tree_nodes self.now) }
+        requires rows { For self.now Finished m (R.view rack.old) }
+        ensures rows { MatchResult result (λ _. For self.now Finished (m + 1) (R.view rack.new)) (λ _. For self.now MoreRows (R.view rack.new).room) }
+        ensures memory { SameMemory (R.view rack.old) (R.view rack.new) }
     {
         self.write_row(rack, m, &[])?;
         self.write_longer(rack, m)
@@ -102,9 +108,11 @@ impl Tree {
 
     // Puts in the rows of all nodes, children before their parents.
     pub(crate) fn write_nodes<R: Rack>(&self, rack: &mut R) -> Result<(), Refusal>
-        ensures { Step R.view R.sound R.unused rack.old rack.new (For self.now MoreRows) (For self.now Finished 0) (For self.now Finished self.now.len) result }
+        requires { For self.now Finished 0 (R.view rack.old) }
+        ensures rows { MatchResult result (λ _. For self.now Finished (length (tree_nodes self.now)) (R.view rack.new)) (λ _. For self.now MoreRows (R.view rack.new).room) }
+        ensures memory { SameMemory (R.view rack.old) (R.view rack.new) }
     {
-        for m in 0..self.len {
+        for m in 0..self.nodes().len() {
             self.write_node(rack, m)?;
         }
         Ok(())

@@ -1,7 +1,9 @@
 // A table that was checked.
-ghost use Rattle.std.specs.Prelude.{◌≡◌, ◌≤◌, length, take};
+ghost use Rattle.std.specs.Prelude.{◌≤◌, length};
+ghost use Rattle.fixed_vec.specs.Lists.{list_of};
 ghost use Rattle.tree_laws.specs.Checked.{Checked};
 
+use fixed_vec::FixedVec;
 use tree_laws::Node;
 use windows::Alphabet;
 
@@ -10,10 +12,8 @@ use windows::Alphabet;
 #[derive(Clone, Copy)]
 pub struct Tree {
     pub(crate) alphabet: Alphabet,
-    pub(crate) nodes: [Node; 32],
-    pub(crate) len: usize,
-    ghost some: { 1 ≤ len },
-    ghost few: { len ≤ 32 },
-    ghost long: { length nodes ≡ 32 },
-    ghost proper: { Checked alphabet.moves (take len nodes) },
+    pub(crate) nodes: FixedVec<Node, 32>,
+    ghost some: { 1 ≤ length (list_of nodes) },
+    ghost few: { length (list_of nodes) ≤ 32 },
+    ghost proper: { Checked alphabet.moves (list_of nodes) },
 }

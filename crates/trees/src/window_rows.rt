@@ -1,122 +1,123 @@
 // The rows of the playable windows, by the standings of their moves at the root.
-ghost use Rattle.std.specs.Prelude.{◌≡◌, ◌+◌, ◌*◌, ◌^◌, ◌<◌, ◌≤◌, ◌∷◌, length, Decides, MatchOption};
+ghost use Rattle.std.specs.Prelude.{◌≡◌, ◌+◌, ◌*◌, ◌^◌, ◌<◌, ◌≤◌, ◌↔◌, ◌∷◌, length, IsTrue, MatchOption, MatchResult};
 ghost use Rattle.terms.specs.Codes.{base};
 ghost use Rattle.terms.specs.Words.{start_mark};
 ghost use Rattle.row_laws.specs.Rows.{MoreRows};
 ghost use Rattle.row_laws.specs.Windowed.{with_marks, Fits, turn};
 ghost use Rattle.windows.specs.Values.{word_items};
-ghost use Rattle.trees.specs.Planting.{Step, Finished, Windows, NextWindow, NextRootWord, Complete};
+ghost use Rattle.trees.specs.Marks.{marks_number};
+ghost use Rattle.trees.specs.Planting.{SameMemory, CodeOfMoves, Finished, Windows, NextWindow, Complete};
 ghost use Rattle.trees.specs.Trees.{For, tree_nodes};
 
 use crate::tree::Tree;
-use racks::Rack;
+use racks::{Rack, next_before};
 use terms::Refusal;
-use windows::Word;
+use windows::{END_MARK, START_MARK, Word};
 
-const START_MARK: u8 = b'+';
+// The marks of a window.
+#[derive(Clone, Copy, PartialEq, Eq, Debug)]
+enum Marks {
+    Neither,
+    Start,
+    End,
+    Both,
+}
 
-const END_MARK: u8 = b'-';
+impl Marks {
+    // The bit of a standing that says whether moves with these marks are playable.
+    fn bit(self) -> u32
+        ensures { result ≡ 2 ^ marks_number self }
+    {
+        match self {
+            Marks::Neither => 1,
+            Marks::Start => 2,
+            Marks::End => 4,
+            Marks::Both => 8,
+        }
+    }
 
-// Whether so many moves make a window with these marks: 0 is none, 1 the start mark, 2 the end mark, 3 both.
-fn fits(order: usize, len: usize, marks: u32) -> bool
-    ensures { Decides result (Fits order marks len) }
-{
-    if len > order {
-        return false;
+    // Whether so many moves make a window with these marks.
+    fn fit(self, order: usize, len: usize) -> bool
+        requires { len ≤ 5 }
+        ensures { IsTrue result ↔ Fits order (marks_number self) len }
+    {
+        match self {
+            Marks::Neither => len == order,
+            Marks::Start | Marks::End => len + 1 == order,
+            Marks::Both => len + 2 <= order,
+        }
     }
-    let left = order - len;
-    if marks == 0 {
-        return left == 0;
-    }
-    if marks < 3 {
-        return left == 1;
-    }
-    left >= 2
 }
 
 // The start mark with the items behind it; nothing where there are more than four.
 fn started(items: &[u8]) -> Option<Word>
     ensures { MatchOption result (4 < length items.now) (λ w. word_items w ≡ start_mark ∷ items.now) }
 {
-    let Some(mut word) = Word::new(&[START_MARK]) else {
-        return None;
-    };
+    let mut word = Word::new(&[START_MARK])?;
     for item in items {
-        let Some(longer) = word.pushed(*item) else {
-            return None;
-        };
-        word = longer;
+        word = word.pushed(*item)?;
     }
     Some(word)
 }
 
-// The window of these moves and marks; nothing where they make none.
-fn with_marks(order: usize, moves: &[u8], marks: u32) -> Option<Word>
-    requires { order ≤ 5 }
-    ensures { MatchOption result (Fits order marks (length moves.now) → ⊥) (λ w. Fits order marks (length moves.now) × (word_items w ≡ with_marks marks moves.now)) }
-{
-    if !fits(order, moves.len(), marks) {
-        return None;
-    }
-    if marks == 0 {
-        return Word::new(moves);
-    }
-    if marks == 1 {
-        return started(moves);
-    }
-    if marks == 2 {
-        let Some(word) = Word::new(moves) else {
-            return None;
-        };
-        return word.pushed(END_MARK);
-    }
-    let Some(word) = started(moves) else {
-        return None;
-    };
-    word.pushed(END_MARK)
-}
-
 impl Tree {
+    // The window of these moves and marks; nothing where they make none.
+    fn window(&self, moves: &[u8], marks: Marks) -> Option<Word>
+        requires { length moves.now ≤ 5 }
+        ensures { MatchOption result (Fits self.now.alphabet.order (marks_number marks) (length moves.now) → ⊥) (λ w. Fits self.now.alphabet.order (marks_number marks) (length moves.now) × (word_items w ≡ with_marks (marks_number marks) moves.now)) }
+    {
+        if !marks.fit(self.alphabet.order(), moves.len()) {
+            return None;
+        }
+        match marks {
+            Marks::Neither => Word::new(moves),
+            Marks::Start => started(moves),
+            Marks::End => Word::new(moves)?.pushed(END_MARK),
+            Marks::Both => started(moves)?.pushed(END_MARK),
+        }
+    }
+
     // Puts in the row of the window of this word and these marks, if the word's standing at the root says that it is playable.
     fn put_window<R: Rack>(
         &self,
         rack: &mut R,
         word: &[u8],
         standing: u32,
-        marks: u32,
+        marks: Marks,
     ) -> Result<(), Refusal>
-        requires { marks < 4 }
-        ensures { Step R.view R.sound R.unused rack.old rack.new (For self.now MoreRows) (For self.now NextWindow word.now standing marks) (For self.now Windows (turn self.now.alphabet.moves marks word.now + 1)) result }
+        requires short { length word.now ≤ 5 }
+        requires next { For self.now NextWindow word.now standing (marks_number marks) (R.view rack.old) }
+        ensures rows { MatchResult result (λ _. For self.now Windows (turn self.now.alphabet.moves (marks_number marks) word.now + 1) (R.view rack.new)) (λ _. For self.now MoreRows (R.view rack.new).room) }
+        ensures memory { SameMemory (R.view rack.old) (R.view rack.new) }
     {
-        if standing & (1 << marks) == 0 {
+        if standing & marks.bit() == 0 {
             return Ok(());
         }
-        let Some(window) = with_marks(self.alphabet.order(), word, marks) else {
+        let Some(window) = self.window(word, marks) else {
             return Ok(());
         };
-        let Some(code) = self.alphabet.code(window.items()) else {
-            return Ok(());
-        };
+        let code = self.alphabet.code(window.items()).unwrap();
         rack.write(code, 1)
     }
 
     // Where the rows of the root begin.
     fn root_start(&self) -> u32
-        ensures bound { result ≤ 24300000 }
+        ensures bound { result ≤ 25059375 }
         ensures value { result ≡ length (tree_nodes self.now) * base self.now.alphabet.moves ^ self.now.alphabet.order }
     {
-        self.len as u32 * self.alphabet.code_limit()
+        self.start(self.nodes().len())
     }
 
-    // Puts in the windows around the word with this code, which has a row at the root.
+    // Puts in the windows around the word with this code.
     fn windows_around<R: Rack>(&self, rack: &mut R, code: u32) -> Result<(), Refusal>
-        ensures { Step R.view R.sound R.unused rack.old rack.new (For self.now MoreRows) (For self.now NextRootWord code) (For self.now Windows (4 * (code + 1))) result }
+        requires word { CodeOfMoves self.now.alphabet.moves self.now.alphabet.order code }
+        requires rows { For self.now Windows (4 * code) (R.view rack.old) }
+        ensures rows { MatchResult result (λ _. For self.now Windows (4 * (code + 1)) (R.view rack.new)) (λ _. For self.now MoreRows (R.view rack.new).room) }
+        ensures memory { SameMemory (R.view rack.old) (R.view rack.new) }
     {
-        let Some(word) = self.alphabet.word(code) else {
-            return Ok(());
-        };
+        let word = self.word(code);
         let standing = rack.read(self.root_start() + code);
-        for marks in 0..4 {
+        for marks in [Marks::Neither, Marks::Start, Marks::End, Marks::Both] {
             self.put_window(rack, word.items(), standing, marks)?;
         }
         Ok(())
@@ -124,21 +125,17 @@ impl Tree {
 
     // Puts in all windows, by a walk over the root's rows.
     pub(crate) fn put_windows<R: Rack>(&self, rack: &mut R) -> Result<(), Refusal>
-        ensures { Step R.view R.sound R.unused rack.old rack.new (For self.now MoreRows) (For self.now Finished (length (tree_nodes self.now))) (For self.now Complete) result }
+        requires { For self.now Finished (length (tree_nodes self.now)) (R.view rack.old) }
+        ensures rows { MatchResult result (λ _. For self.now Complete (R.view rack.new)) (λ _. For self.now MoreRows (R.view rack.new).room) }
+        ensures memory { SameMemory (R.view rack.old) (R.view rack.new) }
     {
-        let limit = self.alphabet.code_limit();
         let start = self.root_start();
+        let end = start + self.alphabet.code_limit();
         let mut from = 0;
-        while from < limit {
-            let Some(key) = rack.next(start + from) else {
-                return Ok(());
-            };
-            // Only a rack that is not sound answers a lower key: the walk ends there too.
-            if key < start + from || key >= start + limit {
-                return Ok(());
-            }
-            self.windows_around(rack, key - start)?;
-            from = key - start + 1;
+        while let Some(key) = next_before(rack, start + from, end) {
+            let code = key - start;
+            self.windows_around(rack, code)?;
+            from = code + 1;
         }
         Ok(())
     }

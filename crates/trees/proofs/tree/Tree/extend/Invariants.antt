@@ -1,11 +1,12 @@
-use Rattle.std.proofs.Common.{Ok}
-use Rattle.row_laws.specs.Rows.{MoreRows}
-use Rattle.trees.specs.Planting.{Step, NextParent, Trying}
-use Rattle.trees.specs.Trees.{For}
+use Rattle.std.proofs.Common.{◌+◌, ◌*◌, ◌<◌, length}
+use Rattle.terms.specs.Codes.{base}
 use Rattle.windows.specs.Values.{word_items}
+use Rattle.trees.specs.Planting.{SameMemory, Underway}
+use Rattle.trees.specs.Trees.{For}
 use Rattle.trees.proofs.tree.Tree.extend.Given as goal
 
 abbrev pub invariant-loop-x : goal.invariant-loop-x
 invariant-loop-x g l =
-    Step g.R.Rack.view g.R.Rack.sound g.R.Rack.unused l.initial.rack l.rack (For l.self MoreRows) (For l.self NextParent l.m l.parent)
-    (For l.self Trying l.m (word_items l.word) l.parent l.x) (Ok (tt {0}))
+    (length (word_items l.word) < l.self.alphabet.order)
+    × For l.self Underway l.m (l.parent * base l.self.alphabet.moves + l.x) (g.R.Rack.view l.rack)
+    × SameMemory (g.R.Rack.view l.initial.rack) (g.R.Rack.view l.rack)

@@ -1,44 +1,22 @@
-use Rattle.std.proofs.Common.{◌≡◌, map, length, refl, ap, ◌∙◌, subst, inr, arith}
-use Rattle.std.proofs.lemmas.List.{take_all}
+use Rattle.std.proofs.Common.{◌≡◌, ◌+◌, map, length, ap, ◌∙◌, subst, sym, arith}
+use Rattle.std.proofs.lemmas.List.{take_all, length-map}
+use Rattle.std.proofs.lemmas.Bool.Decides.{nat_tests}
+use Rattle.fixed_vec.specs.Lists.{list_of}
 use Rattle.trees.specs.Tables.{node_of}
-use Rattle.trees.specs.declared.raw.RawNode.{RawNode}
-use Rattle.trees.proofs.Tables.{Sofar, sofar_more, first_wrong_node, all_checked}
+use Rattle.trees.proofs.Tables.{Sofar, sofar_more, all_checked}
 use Rattle.trees.proofs.tree.Tree.new.Goals as goal
-use Rattle.trees.proofs.tree.Tree.new.Goals.{After-loop-i}
-
-none : RawNode
-none = record { kind = 0; a = 0; b = 0 }
-
-pub returns-in-Err : goal.returns-in-Err
-unfolding none
-returns-in-Err c =
-    let n = c.args.alphabet.moves in
-    let table = c.args.table.now in
-    inr (
-      (c.if-len-lt1.false, c.if-len-gt32.false),
-      (_, _, record { numbered = refl; detailed = refl }, first_wrong_node n table c.loop-i.i c.in-Err.field none c.moves.result c.moves.ensures c.loop-i-test.true c.loop-i.invariant.good c.in-Err.ensures),
-    )
 
 pub loop-i-preserved : goal.loop-i-preserved
-unfolding none
 loop-i-preserved c =
     let told = c.in-Ok.ensures in
-    sofar_more _ _ _ _ _ none c.moves.result c.moves.ensures c.loop-i-test.true (omega arith) c.loop-i.invariant told.0 told.1
-
--- the loop has read the whole table
-whole : (c : After-loop-i) → Sofar c.args.alphabet.moves c.args.table.now (length c.args.table.now) c.loop-i.nodes
-whole c = let end : c.loop-i.i ≡ length c.args.table.now = omega arith in subst (λ i. Sofar c.args.alphabet.moves c.args.table.now i c.loop-i.nodes) end c.loop-i.invariant
+    subst (Sofar c.args.alphabet.moves c.args.table.now (c.loop-i.i + 1)) (sym c.push.ensures)
+    (sofar_more c.args.alphabet.moves c.args.table.now c.loop-i.i _ _ _ c.moves.result c.moves.ensures c.loop-i-test.true (omega arith) c.loop-i.invariant told.0 told.1)
 
 pub invariant_of-result : goal.invariant_of-result
 invariant_of-result c =
-    record { some = c.if-len-lt1.false; few = c.if-len-gt32.false; long = c.loop-i.invariant.long; proper = all_checked _ _ _ (whole c) }
-
-pub returns : goal.returns
-returns c =
-    let all = whole (goal.at.returns c).After-loop-i in
-    record {
-      alphabet_is = refl;
-      nodes_are = all.read ∙ ap (map node_of) (take_all _ c.args.table.now (omega arith));
-      allowed = (c.if-len-lt1.false, c.if-len-gt32.false);
-      good = all.good;
-    }
+    let table = c.args.table.now in
+    let end : c.loop-i.i ≡ length table = omega arith in
+    let all : Sofar c.args.alphabet.moves table (length table) (list_of c.loop-i.nodes) = subst (λ i. Sofar c.args.alphabet.moves table i (list_of c.loop-i.nodes)) end c.loop-i.invariant in
+    let read : list_of c.loop-i.nodes ≡ map node_of table = all.read ∙ ap (map node_of) (take_all (length table) table (omega arith)) in
+    let long : length (list_of c.loop-i.nodes) ≡ length table = ap length read ∙ length-map table node_of in
+    record { some = grind (arith, nat_tests, long); few = omega (arith, long); proper = all_checked c.args.alphabet.moves table _ all.good read }

@@ -1,50 +1,46 @@
-use Rattle.std.proofs.Common.{◌≡◌, length, sym, ap, ◌∙◌, subst}
+use Rattle.std.proofs.Common.{◌≡◌, sym, ap, ◌∙◌, subst}
+use Rattle.std.proofs.lemmas.Bool.{some_since}
 use Rattle.terms.specs.Codes.{Word, code}
-use Rattle.row_laws.specs.Windowed.{with_marks, Fits}
+use Rattle.windows.specs.Promises.{Coded}
+use Rattle.row_laws.specs.Windowed.{with_marks}
 use Rattle.row_laws.proofs.WithMarks.{with_marks_word}
-use Rattle.trees.specs.Trees.{tree_nodes}
-use Rattle.trees.proofs.Steps.{stay_step}
-use Rattle.trees.proofs.Trees.{tree_formed, tree_some}
-use Rattle.trees.proofs.WindowRows.{bit_set, bit_unset, pass_window, window_step}
+use Rattle.trees.specs.Marks.{marks_number}
+use Rattle.trees.proofs.Trees.{is_tree}
+use Rattle.trees.proofs.WindowRows.{marks_four, bit_set, bit_unset, pass_window, window_written}
 use Rattle.trees.proofs.tree.Tree.put_window.Goals as goal
 
-pub returns-then-standing-marks-eq0 : goal.returns-then-standing-marks-eq0
-returns-then-standing-marks-eq0 g c =
+pub returns-then-standing-bit-eq0-clause-rows : goal.returns-then-standing-bit-eq0-clause-rows
+returns-then-standing-bit-eq0-clause-rows g c =
     let tree = c.args.self.now in
     let a = tree.alphabet in
-    stay_step _ _ _ c.args.rack.now _ _ _ tt
-    (pass_window a.moves a.order (tree_nodes tree) a.few a.low (tree_formed tree) (tree_some tree) c.args.word.now c.args.standing c.args.marks c.requires _
-    (λ fits. bit_unset c.args.standing c.args.marks c.requires c.if-standing-marks-eq0.true))
+    let i = marks_number c.args.marks in
+    pass_window (is_tree tree) c.args.word.now c.args.standing i (marks_four c.args.marks) _
+    (λ fits. bit_unset c.args.standing i c.bit.result c.bit.ensures c.if-standing-bit-eq0.true) c.requires.next
 
-pub returns-in_default : goal.returns-in_default
-returns-in_default g c =
+pub returns-in_default-clause-rows : goal.returns-in_default-clause-rows
+returns-in_default-clause-rows g c =
     let tree = c.args.self.now in
     let a = tree.alphabet in
-    let k = c.order.ensures in
-    stay_step _ _ _ c.args.rack.now _ _ _ tt
-    (pass_window a.moves a.order (tree_nodes tree) a.few a.low (tree_formed tree) (tree_some tree) c.args.word.now c.args.standing c.args.marks c.requires _
-    (λ fits. absurd (c.in_default.ensures (subst (λ o. Fits o c.args.marks (length c.args.word.now)) (sym k) fits))))
+    pass_window (is_tree tree) c.args.word.now c.args.standing (marks_number c.args.marks) (marks_four c.args.marks) _
+    (λ fits. absurd (c.in_default.ensures fits)) c.requires.next
 
-pub returns-in_default-code : goal.returns-in_default-code
-returns-in_default-code g c =
+pub unwrap-code-requires : goal.unwrap-code-requires
+unwrap-code-requires g c =
+    let a = c.args.self.now.alphabet in
+    let u = c.args.word.now in
+    let i = marks_number c.args.marks in
+    let told = c.in-Some.ensures in
+    let word = with_marks_word a.moves a.few a.order i u c.requires.next.moves told.0 in
+    some_since c.code.result _ _ c.code.ensures (λ none. none (subst (Word a.moves a.order) (sym (c.items.ensures ∙ told.1)) word))
+
+pub returns-clause-rows : goal.returns-clause-rows
+returns-clause-rows g c =
     let tree = c.args.self.now in
     let a = tree.alphabet in
     let u = c.args.word.now in
-    let i = c.args.marks in
+    let i = marks_number c.args.marks in
     let told = c.in-Some.ensures in
-    let is = c.items.ensures ∙ told.1 in
-    stay_step _ _ _ c.args.rack.now _ _ _ tt
-    (λ next. absurd (c.in_default-code.ensures (subst (Word a.moves a.order) (sym is) (with_marks_word a.moves a.few a.order i u next.moves (subst (λ o. Fits o i (length u)) c.order.ensures told.0)))))
-
-pub returns : goal.returns
-returns g c =
-    let tree = c.args.self.now in
-    let a = tree.alphabet in
-    let u = c.args.word.now in
-    let i = c.args.marks in
-    let told = c.in-Some.ensures in
-    let key : c.in-Some-code.code ≡ code a.moves (with_marks i u) = c.in-Some-code.ensures.is ∙ ap (code a.moves) (c.items.ensures ∙ told.1) in
-    let wrote = c.write.ensures in
-    window_step a.moves a.order (tree_nodes tree) a.few a.low (tree_formed tree) (tree_some tree) u c.args.standing i c.requires c.in-Some-code.code key
-    (subst (λ o. Fits o i (length u)) c.order.ensures told.0) (bit_set c.args.standing i c.requires c.if-standing-marks-eq0.false)
-    _ _ _ c.args.rack.now c.write.new.self c.write.result wrote.accepted wrote.after wrote.stays_sound wrote.memory
+    let coded : Coded a.moves a.order c.items.result.now c.unwrap-code.result = rw c.unwrap-code.ensures at c.code.ensures in
+    let key : c.unwrap-code.result ≡ code a.moves (with_marks i u) = coded.is ∙ ap (code a.moves) (c.items.ensures ∙ told.1) in
+    window_written (is_tree tree) u c.args.standing i (marks_four c.args.marks) c.unwrap-code.result key told.0
+    (bit_set c.args.standing i c.bit.result c.bit.ensures c.if-standing-bit-eq0.false) _ _ c.requires.next c.write.result c.write.ensures.accepted c.write.ensures.after

@@ -1,41 +1,28 @@
-use Rattle.std.proofs.Common.{◌≡◌, ◌≤◌, sym, ◌∙◌, subst, arith}
-use Rattle.row_laws.specs.Rows.{MoreRows, key_limit}
+use Rattle.std.proofs.Common.{◌≡◌, sym, ap, ◌∙◌, subst, arith}
+use Rattle.racks.specs.Views.{View, after_empty}
+use Rattle.row_laws.specs.Rows.{MoreRows}
 use Rattle.row_laws.proofs.Counted.{rows_fit}
+use Rattle.trees.specs.Planting.{SameMemory}
 use Rattle.trees.specs.Trees.{tree_nodes}
-use Rattle.trees.proofs.Planting.{finished_none}
-use Rattle.trees.proofs.Trees.{tree_formed}
+use Rattle.trees.proofs.Trees.{is_tree}
 use Rattle.trees.proofs.tree.Tree.write_rows.Goals as goal
 
-pub returns-in-Ok : goal.returns-in-Ok
-returns-in-Ok g c =
+pub returns : goal.returns
+returns g c =
     let tree = c.args.self.now in
     let a = tree.alphabet in
     let n = a.moves in
     let k = a.order in
     let t = tree_nodes tree in
     let before = g.R.Rack.view c.args.rack.now in
-    let asked = g.R.Rack.view c.reach.new.self in
-    let empty = g.R.Rack.view c.empty.new.self in
     let after = g.R.Rack.view c.put_rows.new.rack in
-    let told = c.in-Ok.ensures in
-    let clear = c.empty.ensures.becomes_sound in
+    let empty : g.R.Rack.view c.empty.new.self ≡ after_empty before = c.empty.ensures ∙ ap after_empty c.reach.ensures.unaltered in
+    let same : SameMemory (after_empty before) after = subst (λ (v : View). SameMemory v after) empty c.in-Ok.ensures.memory in
+    let whole = c.in-Ok.ensures.rows in
     record {
-      outcome = λ sound.
-          let same = c.reach.ensures.unaltered sound in
-          let gone = c.empty.ensures.emptied in
-          let reaches : key_limit n k t ≤ before.reach = omega (arith, c.if-reach-key_limit.false, c.reach.ensures.answer sound, c.key_limit.ensures) in
-          let start = finished_none n k a.few t (tree_formed tree) asked empty gone (subst (λ x. key_limit n k t ≤ x) (sym same.reach) reaches) in
-          let whole = told.step.outcome clear start in
-          let size = told.step.same_size clear in
-          let reach : after.reach ≡ before.reach = size.reach ∙ gone.reach ∙ same.reach in
-          let room : after.room ≡ before.room = size.room ∙ gone.room ∙ same.room in
-          record {
-            reaches = reaches;
-            fits = λ more. rows_fit n k t a.few a.low (tree_formed tree) whole.rows after.reach after.within_room whole.reaches (subst (MoreRows n k t) (sym room) more);
-            rows = whole.rows;
-            playable = told.count clear start;
-            same_size = record { reach = reach; room = room };
-          };
-      stays_sound = λ sound. told.step.stays_sound clear;
-      memory = told.step.memory ∙ c.empty.ensures.memory ∙ c.reach.ensures.memory;
+      reaches = omega (arith, c.if-reach-key_limit.false, c.reach.ensures.answer, c.key_limit.ensures);
+      fits = λ more. rows_fit n k t a.few a.low (is_tree tree).formed whole.0.rows after.reach (g.met.R.Rack.bounded c.put_rows.new.rack).within_room whole.0.reaches (subst (MoreRows n k t) (sym same.room) more);
+      rows = whole.0.rows;
+      playable = whole.1;
+      same_memory = record { reach = same.reach; room = same.room; lent = same.lent };
     }
