@@ -1,8 +1,8 @@
 -- What a slice of rows means as a list rack: the first rows are held, ascending by key.
-use Rattle.std.specs.Prelude.{◌≡◌, ℕ, ◌^◌, ◌<◌, ◌≤◌, List, [], ◌∷◌, length, slice_index_or, take, drop, Result, MatchResult, ◌≢◌, refl}
+use Rattle.std.specs.Prelude.{◌≡◌, ℕ, ◌^◌, ◌<◌, ◌≤◌, List, [], ◌∷◌, length, slice_index, slice_index_or, take, drop, Result, MatchResult, ◌≢◌, refl}
 use Rattle.std.specs.List.{All}
 use Rattle.std.specs.Borrow.{GName}
-use Rattle.std.proofs.Common.{sym, ◌∙◌, arith}
+use Rattle.std.proofs.Common.{sym, ap, ◌∙◌, arith}
 use Rattle.std.proofs.lemmas.List.{length-take}
 use Rattle.std.proofs.lemmas.List.Elements.{All-head, All-tail}
 use Rattle.std.proofs.lemmas.Grind.{common_steps}
@@ -24,6 +24,20 @@ number_in (row ∷ rows) k = written (number_in rows) row.key row.number k
 abbrev pub plain_rows : List Row → List ℕ
 plain_rows [] = []
 plain_rows (row ∷ rows) = row.key ∷ row.number ∷ plain_rows rows
+
+-- other rows have other numbers in that list
+pub rows_told : (xs ys : List Row) → plain_rows xs ≡ plain_rows ys → xs ≡ ys
+rows_told [] [] e = refl
+rows_told [] (y ∷ ys) e = absurd (omega (arith, ap length e))
+rows_told (x ∷ xs) [] e = absurd (omega (arith, ap length e))
+rows_told (x ∷ xs) (y ∷ ys) e =
+    let key : x.key ≡ y.key = ap (λ l. slice_index l 0) e in
+    let number : x.number ≡ y.number = ap (λ l. slice_index l 1) e in
+    let rest : xs ≡ ys = rows_told xs ys (ap (drop 2) e) in
+    let renamed = λ (k : ℕ). let row : Row = record { key = k; number = x.number } in row in
+    let renumbered = λ (m : ℕ). let row : Row = record { key = y.key; number = m } in row in
+    let same : x ≡ y = ap renamed key ∙ ap renumbered number in
+    cc
 
 -- what a clause reads past the end of a list of rows
 abbrev pub no_row : Row
