@@ -57,7 +57,7 @@ impl<T: Copy + Default, const N: usize> FixedVec<T, N> {
         ensures { list_of result ≡ take N items.now }
     {
         let mut list = Self::new();
-        list.extend(items);
+        list.extend_from_slice(items);
         list
     }
 
@@ -71,7 +71,7 @@ impl<T: Copy + Default, const N: usize> FixedVec<T, N> {
         }
     }
 
-    pub fn extend(&mut self, items: &[T])
+    pub fn extend_from_slice(&mut self, items: &[T])
         ensures { list_of self.new ≡ take N (list_of self.old ++ items.now) }
     {
         let n = items.len().min(N - self.len);
@@ -80,6 +80,10 @@ impl<T: Copy + Default, const N: usize> FixedVec<T, N> {
         all[self.len..end].copy_from_slice(&items[..n]);
         self.len = end;
     }
+}
+
+impl<T, const N: usize> FixedVec<T, N> {
+    ghost use Rattle.fixed_vec.specs.Lists.{list_of};
 
     pub fn as_slice(&self) -> &[T]
         ensures { result.now ≡ list_of self.now }

@@ -12,12 +12,11 @@ use Rattle.windows.specs.Values.{word_items}
 use Rattle.windows.specs.declared.values.Word.{Word as Held}
 
 module _ (n : ℕ) (few : n ≤ 12) where
-  module _ (w : List ℕ) (i : ℕ) (inside : i < length w) (short : length w ≤ 5) (items : All (Item n) (take i w)) (here : Item n (get_or w i 0)) where
-    pub items_more : All (Item n) (take (i + 1) w)
-    items_more = All-more (Item n) w i 0 inside items here
-
-    pub room_more : code n (take i w) * base n + digit n (get_or w i 0) < 759375
-    room_more = subst (λ m. m < 759375) (code_more n few w i inside) (code_small n few (take (i + 1) w) items_more (omega (arith, length-take-le (i + 1) w (omega arith))))
+  -- with one item more the code of a part of a word stays small
+  pub room_more : (w : List ℕ) (i : ℕ) → i < length w → length w ≤ 5 → All (Item n) (take i w) → Item n (get_or w i 0) → code n (take i w) * base n + digit n (get_or w i 0) < 759375
+  room_more w i inside short items here =
+      let long : length (take (i + 1) w) ≤ 5 = omega (arith, length-take-le (i + 1) w (omega arith)) in
+      subst (λ m. m < 759375) (code_more n few w i inside) (code_small n few (take (i + 1) w) (All-more (Item n) w i 0 inside items here) long)
 
   pub coded : (k : ℕ) (w : List ℕ) (c : ℕ) → All (Item n) w → length w ≤ k → c ≡ code n w → Coded n k w c
   coded k w c items short is =

@@ -1,3 +1,3 @@
-pub mod Steps
+pub mod Cutting
 pub mod Tests
 pub mod Coding

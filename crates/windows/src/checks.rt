@@ -1,5 +1,5 @@
 // What an alphabet accepts: its own numbers, and the moves of a play.
-ghost use Rattle.std.specs.Prelude.{◌≡◌, ◌≤◌, Decides, MatchOption, MatchResult};
+ghost use Rattle.std.specs.Prelude.{◌≡◌, ◌≤◌, ◌↔◌, IsTrue, MatchOption, MatchResult};
 ghost use Rattle.terms.specs.Words.{Moves, FirstWrong};
 ghost use Rattle.windows.specs.Promises.{Opens, PlayRead, PlayRefused};
 
@@ -9,21 +9,15 @@ use fixed_vec::FixedVec;
 use terms::Refusal;
 
 // The place, counted from 1, of the first item outside 1 to n.
-pub(crate) fn first_wrong(n: u8, items: &[u8]) -> Option<usize>
+fn first_wrong(n: u8, items: &[u8]) -> Option<usize>
     ensures { MatchOption result (Moves n items.now) (λ p. FirstWrong n items.now p) }
 {
     for (i, x) in items.iter().enumerate() {
-        if *x == 0 || *x > n {
+        if !(1..=n).contains(x) {
             return Some(i + 1);
         }
     }
     None
-}
-
-pub(crate) fn all_moves(n: u8, items: &[u8]) -> bool
-    ensures { Decides result (Moves n items.now) }
-{
-    first_wrong(n, items).is_none()
 }
 
 impl Alphabet {
@@ -48,9 +42,9 @@ impl Alphabet {
 
     // Whether each of these bytes is one of the moves 1 to n.
     pub fn are_moves(&self, items: &[u8]) -> bool
-        ensures { Decides result (Moves self.now.moves items.now) }
+        ensures { IsTrue result ↔ Moves self.now.moves items.now }
     {
-        all_moves(self.moves, items)
+        items.iter().all(|x| (1..=self.moves).contains(x))
     }
 
     pub fn order(&self) -> usize

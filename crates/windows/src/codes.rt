@@ -8,16 +8,6 @@ use crate::alphabet::Alphabet;
 use crate::marks::{END_MARK, START_MARK};
 use crate::values::Word;
 
-// The power of a base and an order that an alphabet may have.
-fn power(base: u32, order: usize) -> u32
-    requires low { base ≤ 15 }
-    requires high { order ≤ 5 }
-    ensures value { result ≡ base ^ order }
-    ensures bound { result ≤ 759375 }
-{
-    base.pow(order as u32)
-}
-
 impl Alphabet {
     // B, the base in which a word's digits are read.
     pub fn base(&self) -> u32
@@ -31,7 +21,7 @@ impl Alphabet {
         ensures value { result ≡ the_base self.now.moves ^ self.now.order }
         ensures bound { result ≤ 759375 }
     {
-        power(self.base(), self.order)
+        self.base().pow(self.order as u32)
     }
 
     // The digit of a move or a mark; nothing for any other byte.

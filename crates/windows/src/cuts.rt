@@ -1,5 +1,5 @@
 // Cutting a play into its windows, and telling a window from other bytes.
-ghost use Rattle.std.specs.Prelude.{◌≡◌, ℕ, ◌+◌, ◌≤◌, List, map, length, take, Contains, count_by};
+ghost use Rattle.std.specs.Prelude.{◌≡◌, ℕ, ◌+◌, ◌≤◌, ◌↔◌, List, map, length, take, Contains, count_by};
 ghost use Rattle.std.specs.Str.{bytes_eq as same_text};
 ghost use Rattle.terms.specs.Words.{Cuts, WindowOf, marked, runs, windows};
 ghost use Rattle.fixed_vec.specs.Lists.{list_of};
@@ -23,7 +23,7 @@ impl Play {
     {
         let mut items = FixedVec::new();
         items.push(START_MARK);
-        items.extend(self.moves());
+        items.extend_from_slice(self.moves());
         items.push(END_MARK);
         items
     }
@@ -48,19 +48,13 @@ impl Alphabet {
     // longer than k has itself as its one run of its own length.
     pub fn cut(&self, play: &Play) -> Cut
         ensures law { Cuts self.now.order (marked (play_moves play.now)) (cut_windows result) }
-        ensures members { (u : List ℕ) → (Contains (cut_windows result) u → WindowOf self.now.order (marked (play_moves play.now)) u) × (WindowOf self.now.order (marked (play_moves play.now)) u → Contains (cut_windows result) u) }
+        ensures members { (u : List ℕ) → Contains (cut_windows result) u ↔ WindowOf self.now.order (marked (play_moves play.now)) u }
         ensures listed { cut_windows result ≡ windows self.now.order (marked (play_moves play.now)) }
     {
         let marked = play.marked();
         let items = marked.as_slice();
         all_runs(items, self.order.min(items.len()))
     }
-}
-
-fn same(a: &[u8], b: &[u8]) -> bool
-    ensures { result ≡ same_text a.now b.now }
-{
-    a == b
 }
 
 impl Cut {
@@ -77,7 +71,7 @@ impl Cut {
     {
         self.windows()
             .iter()
-            .filter(|window| same(window.items(), word))
+            .filter(|window| window.items() == word)
             .count()
     }
 }

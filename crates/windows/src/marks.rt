@@ -1,10 +1,10 @@
 // Telling a window from other bytes.
-ghost use Rattle.std.specs.Prelude.{Decides};
+ghost use Rattle.std.specs.Prelude.{◌↔◌, IsTrue};
 ghost use Rattle.terms.specs.Words.{IsWindow};
 
 use crate::alphabet::Alphabet;
-use crate::checks::all_moves;
 
+// The items before and after the moves of a play; no move has these numbers.
 pub const START_MARK: u8 = b'+';
 
 pub const END_MARK: u8 = b'-';
@@ -12,7 +12,7 @@ pub const END_MARK: u8 = b'-';
 impl Alphabet {
     // Whether these bytes are a window of this alphabet.
     pub fn is_window(&self, bytes: &[u8]) -> bool
-        ensures { Decides result (IsWindow self.now.moves self.now.order bytes.now) }
+        ensures { IsTrue result ↔ IsWindow self.now.moves self.now.order bytes.now }
     {
         let rest = bytes.strip_prefix(&[START_MARK]).unwrap_or(bytes);
         let moves = rest.strip_suffix(&[END_MARK]).unwrap_or(rest);
@@ -23,6 +23,6 @@ impl Alphabet {
         } else {
             len == self.order
         };
-        fits && all_moves(self.moves, moves)
+        fits && self.are_moves(moves)
     }
 }

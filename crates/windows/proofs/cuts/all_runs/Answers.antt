@@ -2,7 +2,7 @@ use Rattle.std.proofs.Common.{◌∙◌, ap, take, length, arith, ◌≤◌, sub
 use Rattle.std.specs.Slice.Iter.{windows_rest}
 use Rattle.terms.specs.Words.{runs}
 use Rattle.terms.proofs.Windows.{length_runs}
-use Rattle.windows.proofs.Steps.{window_more}
+use Rattle.windows.proofs.Cutting.{window_more}
 use Rattle.windows.proofs.cuts.all_runs.Goals as goal
 
 pub loop-run-preserved : goal.loop-run-preserved

@@ -1,9 +1,9 @@
 use Rattle.std.proofs.Common.{◌+◌, ◌*◌, ◌<◌, All, sym, ap, ◌∙◌, subst, arith}
-use Rattle.std.proofs.lemmas.List.Elements.{All-get_or}
+use Rattle.std.proofs.lemmas.List.Elements.{All-get_or, All-more}
 use Rattle.std.proofs.lemmas.List.{take_all}
 use Rattle.terms.specs.Codes.{Item, code}
 use Rattle.terms.proofs.Codes.{code_more}
-use Rattle.windows.proofs.Coding.{items_more, room_more, coded}
+use Rattle.windows.proofs.Coding.{room_more, coded}
 use Rattle.windows.proofs.alphabet.Alphabet.code.Goals as goal
 use Rattle.windows.proofs.alphabet.Alphabet.code.Goals.{In_ok-digit}
 
@@ -28,7 +28,7 @@ loop-item-preserved c =
     let inv = c.loop-item.invariant in
     let read = c.in_ok-digit.ensures in
     let sum = code_more a.moves a.few c.args.word.now c.loop-item.item-index c.loop-item-test.true in (
-      items_more a.moves a.few c.args.word.now c.loop-item.item-index c.loop-item-test.true (omega (arith, a.high)) inv.0 read.0,
+      All-more (Item a.moves) c.args.word.now c.loop-item.item-index 0 c.loop-item-test.true inv.0 read.0,
       rw (inv.1, c.base-base.ensures, c.from.ensures, read.1) (sym sum),
     )
 

@@ -2,7 +2,7 @@ use Rattle.std.proofs.Common.{◌≡◌, length, min, ap, ◌∙◌, sym}
 use Rattle.terms.specs.Words.{marked, runs, windows}
 use Rattle.terms.proofs.Windows.{cuts_from_windows, members_from_windows}
 use Rattle.windows.specs.Values.{play_moves, cut_windows}
-use Rattle.windows.proofs.Steps.{windows_runs}
+use Rattle.windows.proofs.Cutting.{windows_runs}
 use Rattle.windows.proofs.alphabet.Alphabet.cut.Goals as goal
 
 pub returns : goal.returns

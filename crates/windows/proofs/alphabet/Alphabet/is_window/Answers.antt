@@ -14,8 +14,8 @@ returns-then-fits c =
       | then-len-moves w ↦ record { both = λ _. search (rules, w.fits-is, c.if-fits.true); other = λ e. absurd (e w.if-len-moves.true) }
       | else-len-moves w ↦ record { both = λ e. absurd (w.if-len-moves.false e); other = λ _. search (rules, w.fits-is, c.if-fits.true) }
     ] in (
-      λ e. window_from_test a.moves a.order a.few a.low _ _ _ front back size (c.all_moves.ensures.0 e),
-      λ is. c.all_moves.ensures.1 (test_from_window a.moves a.order a.few a.low _ _ _ front back is).1,
+      λ e. window_from_test a.moves a.order a.few a.low _ _ _ front back size (c.are_moves.ensures.0 e),
+      λ is. c.are_moves.ensures.1 (test_from_window a.moves a.order a.few a.low _ _ _ front back is).1,
     )
 
 pub returns-else-fits : goal.returns-else-fits

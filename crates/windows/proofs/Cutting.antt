@@ -1,25 +1,13 @@
--- What one step of a loop of this crate keeps.
-use Rattle.std.proofs.Common.{◌≡◌, ℕ, suc, zero, ◌+◌, ◌-◌, ◌<◌, ◌≤◌, min, Bool, true, false, not, List, [], ◌∷◌, ◌++◌, map, length, get_or, take, drop, is_some, Some, None, Decides, Option, sym, refl, ap, ◌∙◌, subst, ⊎_elim, add-one, append_assoc, arith, length-append, MatchOption}
+-- The marked list of a play, and its runs one after the other.
+use Rattle.std.proofs.Common.{◌≡◌, ℕ, suc, zero, ◌+◌, ◌-◌, ◌≤◌, min, List, [], ◌∷◌, ◌++◌, map, length, take, drop, sym, refl, ap, ◌∙◌, ⊎_elim, add-one, append_assoc, arith, length-append}
 use Rattle.std.specs.List.{range_with_len}
-use Rattle.std.proofs.lemmas.List.Elements.{All-get_or}
-use Rattle.std.proofs.lemmas.Bool.{true≢false, cases_lt}
+use Rattle.std.proofs.lemmas.Bool.{cases_lt}
 use Rattle.std.proofs.lemmas.List.{take_all, map_push, length-map, length_push, length-take-le}
-use Rattle.terms.specs.Words.{Move, Moves, marked, start_mark, end_mark, run, runs, windows, FirstWrong}
+use Rattle.terms.specs.Words.{marked, start_mark, end_mark, run, runs, windows}
 use Rattle.terms.proofs.Shapes.{length_marked}
 use Rattle.terms.proofs.Windows.{windows_short, windows_long}
 use Rattle.windows.specs.Values.{word_items}
 use Rattle.windows.specs.declared.values.Word.{Word}
-
--- the item at i is the first outside 1 to n
-pub first_wrong_at : (n : ℕ) (w : List ℕ) (i : ℕ) → i < length w → Moves n (take i w) → (Move n (get_or w i 0) → ⊥) → FirstWrong n w (i + 1)
-first_wrong_at n w i inside before here =
-    let back : i + 1 - 1 ≡ i = omega arith in
-    record {
-      from_one = omega arith;
-      inside = omega arith;
-      wrong = subst (λ j. Move n (get_or w j 0) → ⊥) (sym back) here;
-      right_before = subst (λ j. Moves n (take j w)) (sym back) before;
-    }
 
 -- both marks around the moves w, put one behind the other where there is room
 pub marks_around : (w a b c : List ℕ) → length w ≤ 32 → a ≡ take 34 (start_mark ∷ []) → b ≡ take 34 (a ++ w) → c ≡ take 34 (b ++ (end_mark ∷ [])) → c ≡ marked w
@@ -60,10 +48,3 @@ window_more k all rest run ws more w some low few split long is items pushed =
     let count = ap length split ∙ length-append (map word_items ws) (runs k rest) in
     let whole : more ≡ ws ++ (w ∷ []) = pushed ∙ take_all 33 (ws ++ (w ∷ [])) (omega (arith, few, count, ap length step, length-map ws word_items, length_push ws w)) in
     split ∙ ap (λ l. map word_items ws ++ l) (step ∙ ap (λ u. u ∷ runs k (drop 1 rest)) (sym same)) ∙ sym (append_assoc (map word_items ws) (word_items w ∷ []) (runs k (drop 1 rest))) ∙ ap (λ l. l ++ runs k (drop 1 rest)) (sym (ap (map word_items) whole ∙ map_push word_items ws w))
-
--- that no item is wrong is a test for moves
-pub none_wrong : (n : ℕ) (w : List ℕ) (found : Option ℕ) (r : Bool) → MatchOption found (Moves n w) (FirstWrong n w) → is_some found ≡ not r → Decides r (Moves n w)
-none_wrong n w None true moves e = (λ _. moves, λ _. refl)
-none_wrong n w None false moves e = absurd (true≢false (sym e))
-none_wrong n w (Some p) true wrong e = absurd (true≢false e)
-none_wrong n w (Some p) false wrong e = (λ t. absurd (true≢false (sym t)), λ moves. absurd (wrong.wrong (All-get_or (Move n) w (p - 1) 0 (omega (arith, wrong.from_one, wrong.inside)) moves)))
