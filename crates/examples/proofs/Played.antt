@@ -1,11 +1,15 @@
 -- Computed tests tell that a table is well-formed, that a list has exactly its playable windows, and that one is not playable.
-use Rattle.std.proofs.Common.{◌≡◌, ℕ, zero, suc, ◌+◌, ◌-◌, ◌^◌, ◌<◌, ◌≤◌, Bool, true, false, cond, not, ◌&&◌, ◌||◌, eqb, ltb, leb, List, [], ◌∷◌, length, get_or, Decides, All, Contains, filter, sym, refl, subst, arith}
+use Rattle.std.proofs.Common.{◌≡◌, ℕ, if◌then◌else◌, sum_by, zero, suc, ◌+◌, ◌-◌, ◌^◌, ◌<◌, ◌≤◌, Bool, true, false, cond, not, ◌&&◌, eqb, ltb, leb, List, [], ◌∷◌, length, get_or, Decides, All, Contains, filter, sym, refl, subst, arith}
+use mathlib.Core.Bool.{beq}
+use Rattle.std.specs.List.{list_all, list_any}
+use Rattle.std.specs.Cmp.{booleans_Decides}
 use Rattle.std.specs.Str.{bytes_eq}
-use Rattle.std.proofs.lemmas.List.Elements.{All-cons, All-contains, All-head, All-nil, All-tail, Decides-contains}
+use Rattle.std.proofs.lemmas.List.Sums.{AllPass-from_list_all}
+use Rattle.std.proofs.lemmas.List.Elements.{All-weaker, All-contains, All-head, All-tail, Decides-contains}
 use Rattle.std.proofs.lemmas.Slice.Eq.{bytes_eq-Decides}
 use Rattle.std.proofs.lemmas.Bool.{and_parts, leb-true, le-leb, ltb-true, not-true, false≢true}
 use Rattle.std.proofs.lemmas.Bool.Decides.{Decides-and, Decides-below_and, Decides-by_and, Decides-by_or, Decides-at, Decides-eqb, not_from_Decides}
-use Rattle.terms.specs.Words.{Move, Moves, start_mark, end_mark}
+use Rattle.terms.specs.Words.{Move, Moves}
 use Rattle.tree_laws.specs.declared.Node.{Node}
 use Rattle.tree_laws.specs.declared.Node.TheVariants.{Skip}
 use Rattle.tree_laws.specs.Checked.{is_move, is_proper}
@@ -20,7 +24,7 @@ use Rattle.tree_laws.proofs.Computed.{computed_laws_lem}
 use Rattle.tree_laws.proofs.Nodes.{node_is}
 use Rattle.row_laws.specs.Rows.{ListsPlayable}
 use Rattle.row_laws.specs.Windowed.{with_marks, Fits}
-use Rattle.row_laws.proofs.WithMarks.{Marking, fits_short, marking_of_window, playable_window, with_marks_decides}
+use Rattle.row_laws.proofs.WithMarks.{mark_value, no_mark, Marking, fits_short, marking_of_window, playable_window, with_marks_decides}
 
 -- ---- tests of all numbers below n, and of all words of at most k of the moves 1 to n
 
@@ -77,32 +81,26 @@ decides_fits k (suc (suc zero)) len = Decides-eqb (len + 1) k
 decides_fits k (suc (suc (suc i))) len = (leb-true (len + 2) k, le-leb (len + 2) k)
 
 abbrev pub listed : List ℕ → List (List ℕ) → Bool
-listed x [] = false
-listed x (w ∷ ws) = bytes_eq w x || listed x ws
+listed x = list_any (λ w. bytes_eq w x)
 
 decides_listed : (ws : List (List ℕ)) (x : List ℕ) → Decides (listed x ws) (Contains ws x)
 decides_listed ws x = Decides-contains ws x _ (Decides-by_or (λ w. bytes_eq w x) (λ w. w ≡ x) (listed x) (λ w. bytes_eq-Decides w x) refl (λ _ _. refl) ws)
 
-abbrev pub moves_only : ℕ → List ℕ → Bool
-moves_only n [] = true
-moves_only n (x ∷ xs) = is_move n x && moves_only n xs
-
-decides_moves : (n : ℕ) (u : List ℕ) → Decides (moves_only n u) (Moves n u)
+decides_moves : (n : ℕ) (u : List ℕ) → Decides (list_all (is_move n) u) (Moves n u)
 decides_moves n =
-    Decides-by_and (is_move n) (Move n) (moves_only n)
+    Decides-by_and (is_move n) (Move n) (list_all (is_move n))
     (λ x. Decides-and _ _ (leb-true 1 x, le-leb 1 x) (leb-true x n, le-leb x n)) refl (λ _ _. refl)
 
 -- which marks stand in x, and x without them
 abbrev pub marks_of : List ℕ → ℕ
-marks_of [] = 0
-marks_of (x ∷ xs) = cond (eqb x start_mark) 1 (cond (eqb x end_mark) 2 0) + marks_of xs
+marks_of = sum_by mark_value
 
 abbrev pub bare : List ℕ → List ℕ
-bare x = filter (λ m. ltb m start_mark) x
+bare = filter no_mark
 
 -- x is moves with their marks, and a window
 abbrev pub is_with_marks : ℕ → ℕ → List ℕ → Bool
-is_with_marks n k x = ltb (marks_of x) 4 && (moves_only n (bare x) && (fits k (marks_of x) (length (bare x)) && bytes_eq x (with_marks (marks_of x) (bare x))))
+is_with_marks n k x = ltb (marks_of x) 4 && (list_all (is_move n) (bare x) && (fits k (marks_of x) (length (bare x)) && bytes_eq x (with_marks (marks_of x) (bare x))))
 
 abbrev marking : (n k : ℕ) (x : List ℕ) → is_with_marks n k x ≡ true → Marking n k x
 marking n k x e =
@@ -118,20 +116,8 @@ marking n k x e =
       is = (bytes_eq-Decides x (with_marks (marks_of x) (bare x))).0 is;
     }
 
-abbrev pub all_with_marks : ℕ → ℕ → List (List ℕ) → Bool
-all_with_marks n k [] = true
-all_with_marks n k (x ∷ xs) = is_with_marks n k x && all_with_marks n k xs
-
-markings : (n k : ℕ) (xs : List (List ℕ)) → all_with_marks n k xs ≡ true → All (Marking n k) xs
-markings n k [] e = All-nil (Marking n k)
-markings n k (x ∷ xs) e = let (here, rest) = and_parts _ _ e in All-cons (Marking n k) x xs (marking n k x here) (markings n k xs rest)
-
-abbrev pub same : Bool → Bool → Bool
-same a b = cond a b (not b)
-
-from_same : (a b : Bool) → same a b ≡ true → a ≡ b
-from_same true b e = sym e
-from_same false b e = sym (not-true b e)
+markings : (n k : ℕ) (xs : List (List ℕ)) → list_all (is_with_marks n k) xs ≡ true → All (Marking n k) xs
+markings n k xs e = All-weaker (λ x. is_with_marks n k x ≡ true) (Marking n k) (marking n k) xs (AllPass-from_list_all (is_with_marks n k) xs e)
 
 from_cond : (a b : Bool) → cond a b true ≡ true → a ≡ true → b ≡ true
 from_cond true b e h = e
@@ -139,7 +125,7 @@ from_cond false b e h = absurd (false≢true h)
 
 -- where u with the marks i is a window, the bit of the standing s tells whether it is listed
 abbrev pub agrees : ℕ → List (List ℕ) → List ℕ → ℕ → ℕ → Bool
-agrees k ws u s i = cond (fits k i (length u)) (same (has s (2 ^ i)) (listed (with_marks i u) ws)) true
+agrees k ws u s i = if fits k i (length u) then beq (has s (2 ^ i)) (listed (with_marks i u) ws) else true
 
 abbrev pub agrees_at : List Node → ℕ → List (List ℕ) → List ℕ → Bool
 agrees_at t k ws u = below 4 (agrees k ws u (root_standing t u))
@@ -171,7 +157,7 @@ range_from_test n k t e =
     record { few = leb-true n 12 few; wide = leb-true 2 k wide; rooted = leb-true 1 (length t) rooted; wf = well_formed n t proper }
 
 abbrev pub plays_test : ℕ → ℕ → List Node → List (List ℕ) → Bool
-plays_test n k t ws = in_range n k t && (all_with_marks n k ws && each_word n k (agrees_at t k ws))
+plays_test n k t ws = in_range n k t && (list_all (is_with_marks n k) ws && each_word n k (agrees_at t k ws))
 
 abbrev pub unplayable_test : ℕ → ℕ → List Node → List ℕ → Bool
 unplayable_test n k t x = in_range n k t && (is_with_marks n k x && not (has (root_standing t (bare x)) (2 ^ marks_of x)))
@@ -193,7 +179,7 @@ module _ (n k : ℕ) (t : List Node) (range : InRange n k t) where
         let i = d.marks in
         let s = root_standing t u in
         let here : agrees k ws u s i ≡ true = below_at 4 (agrees k ws u s) (each_word_at n k (agrees_at t k ws) words u d.moves (fits_short k i (length u) d.fits)) i d.four in
-        let agree : has s (2 ^ i) ≡ listed (with_marks i u) ws = from_same _ _ (from_cond (fits k i (length u)) _ here ((decides_fits k i (length u)).1 d.fits)) in
+        let agree : has s (2 ^ i) ≡ listed (with_marks i u) ws = (booleans_Decides _ _).0 (from_cond (fits k i (length u)) _ here ((decides_fits k i (length u)).1 d.fits)) in
         subst (λ y. Decides (has s (2 ^ i)) (Contains ws y)) (sym d.is) (Decides-at _ _ agree (decides_listed ws (with_marks i u)))
 
     exactly : All (Marking n k) ws → ListsPlayable t k ws

@@ -1,9 +1,8 @@
 -- By how many keys the rows of the windows are more than those of the nodes.
 use Rattle.std.proofs.Common.{◌≡◌, ℕ, zero, suc, ◌+◌, ◌-◌, ◌^◌, ◌<◌, ◌≤◌, List, length, sym, ap, ◌∙◌, subst, inl, inr, ⊎_elim, add-zero, add-suc, arith}
 use Rattle.std.proofs.lemmas.Bool.{cases_lt}
-use Rattle.terms.specs.Codes.{base, code}
+use Rattle.terms.specs.Codes.{base}
 use Rattle.terms.proofs.Codes.{code_below}
-use Rattle.tree_laws.specs.Facts.{Standing}
 use Rattle.tree_laws.specs.Routes.{WellFormed}
 use Rattle.tree_laws.specs.declared.Node.{Node}
 use Rattle.tree_laws.proofs.Computed.{bits_at, unique_standing}
@@ -17,12 +16,7 @@ use Rattle.row_laws.proofs.Windowed.{node_key_high}
 
 -- only the numbers at keys matter
 pub rows_same : (n k : ℕ) (t : List Node) {f g : ℕ → ℕ} → ((key : ℕ) → g key ≡ f key) → RowsAt n k t f → RowsAt n k t g
-rows_same n k t same h = record {
-  standings = λ v u low high moves short. subst (Standing t v u) (sym (same (row_key n k v u))) (h.standings v u low high moves short);
-  played = λ u is plays. same (code n u) ∙ h.played u is plays;
-  unplayed = λ u is not_played. same (code n u) ∙ h.unplayed u is not_played;
-  only = λ key held. h.only key (subst (λ x. 0 < x) (same key) held);
-}
+rows_same n k t same = subst (RowsAt n k t) (λ i key. sym (same key) i)
 
 held_count_split : (f : ℕ → ℕ) (a b : ℕ) → held_count f (a + b) ≡ held_count f a + held_count (λ i. f (a + i)) b
 unfolding held_count

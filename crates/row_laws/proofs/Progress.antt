@@ -1,7 +1,7 @@
 -- One row more, words that no route contains, and the end of a node: what is kept while rows are put in.
 use Rattle.std.proofs.Common.{◌≡◌, ℕ, ◌+◌, ◌*◌, ◌^◌, ◌<◌, ◌≤◌, List, [], ◌∷◌, ◌++◌, length, sym, refl, ap, ◌∙◌, subst, ⊎_elim, mul-le-mul_right, add-mul, mul-le-mul_left, arith}
 use Rattle.std.proofs.lemmas.List.{length_push}
-use Rattle.std.proofs.lemmas.List.Elements.{All-nil, All-tail}
+use Rattle.std.proofs.lemmas.List.Elements.{All-tail}
 use Rattle.std.proofs.lemmas.Bool.{cases_Bool, cases_eq, cases_lt}
 use Rattle.std.proofs.lemmas.Bool.Decides.{not_from_Decides}
 use Rattle.terms.specs.Codes.{base, code}
@@ -23,18 +23,10 @@ use Rattle.row_laws.proofs.Keys.{items_from_moves, code_of_moves, code_of_push, 
 module _ (n k : ℕ) (few : n ≤ 12) (t : List Node) where
   -- only the numbers at keys matter
   pub upto_same : (m : ℕ) (f g : ℕ → ℕ) → ((key : ℕ) → g key ≡ f key) → Upto n k t m f → Upto n k t m g
-  upto_same m f g same h = record {
-    standings = λ v u low high moves short. subst (Standing t v u) (sym (same (row_key n k v u))) (h.standings v u low high moves short);
-    only = λ key held. h.only key (subst (λ x. 0 < x) (same key) held);
-  }
+  upto_same m f g same = subst (Upto n k t m) (λ i key. sym (same key) i)
 
   pub progress_same : (m d : ℕ) (f g : ℕ → ℕ) → ((key : ℕ) → g key ≡ f key) → InProgress n k t m d f → InProgress n k t m d g
-  progress_same m d f g same h = record {
-    standings = λ v u low high moves short. subst (Standing t v u) (sym (same (row_key n k v u))) (h.standings v u low high moves short);
-    done = λ u moves short l. subst (Standing t (m + 1) u) (sym (same (row_key n k (m + 1) u))) (h.done u moves short l);
-    pending = λ u moves short l. same (row_key n k (m + 1) u) ∙ h.pending u moves short l;
-    only = λ key held. h.only key (subst (λ x. 0 < x) (same key) held);
-  }
+  progress_same m d f g same = subst (InProgress n k t m d) (λ i key. sym (same key) i)
 
   -- an empty rack has the rows of no node
   pub upto_none : (f : ℕ → ℕ) → ((key : ℕ) → f key ≡ 0) → Upto n k t 0 f
@@ -112,19 +104,6 @@ contained_from_held t v u s stands held =
 -- ---- words behind words: the code of a word with one move more lies between multiples of the base
 
 module _ (n k : ℕ) (few : n ≤ 12) where
-  -- a word of at least one move, with its parent's code and its last move
-  pub data Parted (u : List ℕ) : Type 0 where
-    none : u ≡ [] → Parted u
-    behind : (v : List ℕ) (x : ℕ) → u ≡ v ++ (x ∷ []) → Moves n v → Move n x → code n u ≡ code n v * base n + x → length u ≡ length v + 1 → Parted u
-
-  pub parted : (u : List ℕ) → Moves n u → Parted u
-  parted u moves =
-      ⊎_elim none
-      (λ (v, x, is).
-      let parts = all_before_last (Move n) v x (subst (Moves n) is moves) in
-      behind v x is parts.0 parts.1 (ap (code n) is ∙ code_of_push n k few v x parts.1) (ap length is ∙ length_push v x))
-      (from_the_end u)
-
   -- a parent whose code is below c has its words below c * base
   pub below_multiple : (c p x : ℕ) → x ≤ n → p < c → p * base n + x < c * base n
   below_multiple c p x small less =
@@ -133,6 +112,30 @@ module _ (n k : ℕ) (few : n ≤ 12) where
 
   pub above_multiple : (c p x : ℕ) → c ≤ p → c * base n + x ≤ p * base n + x
   above_multiple c p x more = let scaled : c * base n ≤ p * base n = mul-le-mul_right (base n) more in omega arith
+
+  -- u is one move more behind a word with the code c
+  record Child (c : ℕ) (u : List ℕ) : Type 0 where
+    parent : List ℕ
+    move : ℕ
+    moves : Moves n parent
+    last : move ≤ n
+    parent_is : code n parent ≡ c
+    code_is : code n u ≡ c * base n + move
+    long : length u ≡ length parent + 1
+
+  child_of : (c : ℕ) (u : List ℕ) → Moves n u → c * base n + 1 ≤ code n u → code n u < (c + 1) * base n + 1 → Child c u
+  child_of c u moves low high =
+      ⊎_elim (λ empty. absurd (omega (arith, ap (code n) empty)))
+      (λ (v, x, is).
+      let parts = all_before_last (Move n) v x (subst (Moves n) is moves) in
+      let whole : code n u ≡ code n v * base n + x = ap (code n) is ∙ code_of_push n k few v x parts.1 in
+      let same : code n v ≡ c =
+      ⊎_elim
+      (λ less. absurd (omega (arith, below_multiple c (code n v) x parts.1.1 less)))
+      (λ more. ⊎_elim (λ e. e) (λ other. absurd (omega (arith, above_multiple (c + 1) (code n v) x (omega arith), parts.1.0))) (cases_eq (code n v) c))
+      (cases_lt (code n v) c) in
+      record { parent = v; move = x; moves = parts.0; last = parts.1.1; parent_is = same; code_is = whole ∙ ap (λ p. p * base n + x) same; long = ap length is ∙ length_push v x })
+      (from_the_end u)
 
   module _ (t : List Node) (wf : WellFormed n t) (m : ℕ) (inside : m + 1 ≤ length t) where
     -- a word behind one that no route contains
@@ -166,35 +169,15 @@ module _ (n k : ℕ) (few : n ≤ 12) where
 
     -- every move was tried behind the word with the code c
     pub progress_tried : (c : ℕ) (f : ℕ → ℕ) → InProgress n k t m (c * base n + n + 1) f → InProgress n k t m ((c + 1) * base n + 1) f
-    progress_tried c f h = progress_gap n k few t m (c * base n + n + 1) ((c + 1) * base n + 1) f (omega (arith, add-mul c 1 (base n))) (λ u moves short low high. between u low high (parted u moves)) h
-      where
-        between : (u : List ℕ) → c * base n + n + 1 ≤ code n u → code n u < (c + 1) * base n + 1 → Parted u → ⊥
-        between u low high (none is) = omega (arith, ap (code n) is)
-        between u low high (behind v x is moves move code_is long) =
-            ⊎_elim
-            (λ less. omega (arith, below_multiple c (code n v) x move.1 less))
-            (λ more.
-            ⊎_elim
-            (λ same. omega (arith, ap (λ p. p * base n) same, move.1))
-            (λ other. omega (arith, above_multiple (c + 1) (code n v) x (omega arith), move.0))
-            (cases_eq (code n v) c))
-            (cases_lt (code n v) c)
+    progress_tried c f h =
+        progress_gap n k few t m (c * base n + n + 1) ((c + 1) * base n + 1) f (omega (arith, add-mul c 1 (base n)))
+        (λ u moves short low high. let p = child_of c u moves (omega arith) high in omega (arith, p.last, p.code_is)) h
 
     -- no word of at most k moves stands behind a word of k moves
     pub progress_full : (p : List ℕ) (f : ℕ → ℕ) → Moves n p → k ≤ length p → InProgress n k t m (code n p * base n + 1) f → InProgress n k t m ((code n p + 1) * base n + 1) f
-    progress_full p f mp full h = progress_gap n k few t m (code n p * base n + 1) ((code n p + 1) * base n + 1) f (omega (arith, add-mul (code n p) 1 (base n))) (λ u moves short low high. between u short low high (parted u moves)) h
-      where
-        between : (u : List ℕ) → length u ≤ k → code n p * base n + 1 ≤ code n u → code n u < (code n p + 1) * base n + 1 → Parted u → ⊥
-        between u short low high (none is) = omega (arith, ap (code n) is)
-        between u short low high (behind v x is moves move code_is long) =
-            ⊎_elim
-            (λ less. omega (arith, below_multiple (code n p) (code n v) x move.1 less))
-            (λ more.
-            ⊎_elim
-            (λ same. omega (arith, ap length (same_word n k few v p moves mp same), long))
-            (λ other. omega (arith, above_multiple (code n p + 1) (code n v) x (omega arith), move.0))
-            (cases_eq (code n v) (code n p)))
-            (cases_lt (code n v) (code n p))
+    progress_full p f mp full h =
+        progress_gap n k few t m (code n p * base n + 1) ((code n p + 1) * base n + 1) f (omega (arith, add-mul (code n p) 1 (base n)))
+        (λ u moves short low high. let b = child_of (code n p) u moves low high in omega (arith, b.long, ap length (same_word n k few b.parent p b.moves mp b.parent_is))) h
 
     -- all codes lie below the limit
     pub progress_ends : (c : ℕ) (f : ℕ → ℕ) → base n ^ k ≤ c * base n → InProgress n k t m (c * base n + 1) f → Upto n k t (m + 1) f
@@ -204,12 +187,6 @@ module _ (n k : ℕ) (few : n ≤ 12) where
     pub progress_exhausted : (c : ℕ) (f : ℕ → ℕ) → c ≤ base n ^ k → ((u : List ℕ) → Moves n u → length u ≤ k → c ≤ code n u → f (row_key n k (m + 1) u) ≡ 0) → InProgress n k t m (c * base n + 1) f → Upto n k t (m + 1) f
     progress_exhausted c f le free h =
         progress_ends (base n ^ k) f (omega (arith, mul-le-mul_left {m = 1} {n = base n} (base n ^ k) (omega arith))) (progress_skip c (base n ^ k) f le (λ u moves short low high. free u moves short low) h)
-
-    -- the first row of the node is that of the empty word
-    pub progress_start : (f : ℕ → ℕ) (s : ℕ) → Upto n k t m f → Standing t (m + 1) [] s → InProgress n k t m (0 * base n + 1) (written f (row_key n k (m + 1) []) s)
-    progress_start f s h stands =
-        let one : 0 + 1 ≡ 0 * base n + 1 = omega arith in
-        subst (λ d. InProgress n k t m d (written f (row_key n k (m + 1) []) s)) one (progress_write n k few t m [] (All-nil (Move n)) (omega arith) f s (progress_none n k few t m f h) stands)
 
     module _ (d : ℕ) (f : ℕ → ℕ) (h : InProgress n k t m d f) where
       -- a word whose tail is not held is contained in no route

@@ -51,13 +51,7 @@ module _ (n k : ℕ) (t : List Node) (few : n ≤ 12) (wide : 2 ≤ k) (wf : Wel
       no_row i u moves fits = omega (arith, not_held i u moves fits)
 
   pub windowed_same : {d : ℕ} {f g : ℕ → ℕ} → ((key : ℕ) → g key ≡ f key) → Windowed n k t d f → Windowed n k t d g
-  windowed_same same h = record {
-    standings = λ v u low high moves short. subst (Standing t v u) (sym (same (row_key n k v u))) (h.standings v u low high moves short);
-    played = λ i u four moves fits l p. same (code n (with_marks i u)) ∙ h.played i u four moves fits l p;
-    unplayed = λ i u four moves fits l no. same (code n (with_marks i u)) ∙ h.unplayed i u four moves fits l no;
-    pending = λ i u four moves fits l. same (code n (with_marks i u)) ∙ h.pending i u four moves fits l;
-    only = λ key held. h.only key (subst (λ z. 0 < z) (same key) held);
-  }
+  windowed_same {d} same = subst (Windowed n k t d) (λ i key. sym (same key) i)
 
   module _ {d : ℕ} {f : ℕ → ℕ} (h : Windowed n k t d f) (i : ℕ) (u : List ℕ) (four : i < 4) (moves : Moves n u) (here : d ≡ turn n i u) where
     -- before its turn a window has no row

@@ -1,6 +1,6 @@
 -- The words of moves with their marks: their codes, that these tell them apart, and that they are exactly the windows.
 use Rattle.std.proofs.Common.{◌≡◌, ℕ, zero, suc, ◌*◌, ◌^◌, ◌<◌, ◌≤◌, Bool, cond, eqb, ltb, List, [], ◌∷◌, ◌++◌, length, Decides, All, sum_by, filter, sym, refl, ap, ◌∙◌, subst, inl, inr, append-nil, arith}
-use Rattle.std.proofs.lemmas.List.Elements.{All-cons, All-head, All-push, All-tail, All-weaker, filter-append}
+use Rattle.std.proofs.lemmas.List.Elements.{All-cons, All-head, All-push, All-tail, filter-append}
 use Rattle.std.proofs.lemmas.List.{length_push}
 use Rattle.std.proofs.lemmas.List.Sums.{sum_by-cons, sum_by_push}
 use Rattle.std.proofs.lemmas.Bool.{lt-ltb, ne_eqb}
@@ -15,8 +15,9 @@ use Rattle.tree_laws.specs.Facts.{Playable, Standing}
 use Rattle.tree_laws.specs.Routes.{WellFormed}
 use Rattle.tree_laws.proofs.Nodes.{route_moves}
 use Rattle.tree_laws.proofs.Rows.{played_at}
-use Rattle.tree_laws.proofs.Windows.{all_parts}
+use Rattle.terms.proofs.Ends.{all_parts}
 use Rattle.row_laws.specs.Windowed.{with_marks, Fits, turn}
+use Rattle.row_laws.proofs.Keys.{items_from_moves, code_of_moves, same_word}
 
 -- x is the moves of a word with their marks, and a window
 pub record Marking (n k : ℕ) (x : List ℕ) : Type 0 where
@@ -34,21 +35,18 @@ fits_short k (suc (suc zero)) len h = omega arith
 fits_short k (suc (suc (suc i))) len h = omega arith
 
 -- the start mark counts 1, and the end mark 2
-abbrev mark_value : ℕ → ℕ
+abbrev pub mark_value : ℕ → ℕ
 mark_value x = cond (eqb x start_mark) 1 (cond (eqb x end_mark) 2 0)
 
-abbrev no_mark : ℕ → Bool
+abbrev pub no_mark : ℕ → Bool
 no_mark x = ltb x start_mark
 
 module _ (n : ℕ) (few : n ≤ 12) where
-  moves_items : (u : List ℕ) → Moves n u → All (Item n) u
-  moves_items u moves = All-weaker (Move n) (Item n) (λ x m. inl m) u moves
-
   pub with_marks_items : (i : ℕ) (u : List ℕ) → Moves n u → All (Item n) (with_marks i u)
-  with_marks_items zero u moves = moves_items u moves
-  with_marks_items (suc zero) u moves = All-cons (Item n) start_mark u (inr (inl refl)) (moves_items u moves)
-  with_marks_items (suc (suc zero)) u moves = All-push (Item n) u end_mark (moves_items u moves) (inr (inr refl))
-  with_marks_items (suc (suc (suc i))) u moves = All-cons (Item n) start_mark (u ++ (end_mark ∷ [])) (inr (inl refl)) (All-push (Item n) u end_mark (moves_items u moves) (inr (inr refl)))
+  with_marks_items zero u moves = items_from_moves n u moves
+  with_marks_items (suc zero) u moves = All-cons (Item n) start_mark u (inr (inl refl)) (items_from_moves n u moves)
+  with_marks_items (suc (suc zero)) u moves = All-push (Item n) u end_mark (items_from_moves n u moves) (inr (inr refl))
+  with_marks_items (suc (suc (suc i))) u moves = All-cons (Item n) start_mark (u ++ (end_mark ∷ [])) (inr (inl refl)) (All-push (Item n) u end_mark (items_from_moves n u moves) (inr (inr refl)))
 
   mark_values_moves : (u : List ℕ) → Moves n u → sum_by mark_value u ≡ 0
   mark_values_moves [] h = refl
@@ -91,7 +89,7 @@ module _ (n : ℕ) (few : n ≤ 12) where
 
   -- two windows with one turn have the same marks and the same moves
   pub turn_apart : (i j : ℕ) (u v : List ℕ) → i < 4 → j < 4 → Moves n u → Moves n v → turn n i u ≡ turn n j v → (i ≡ j) × (u ≡ v)
-  turn_apart i j u v hi hj hu hv e = (omega arith, code_apart n few u v (moves_items u hu) (moves_items v hv) (omega arith))
+  turn_apart i j u v hi hj hu hv e = (omega arith, same_word n 0 few u v hu hv (omega arith))
 
   module _ (k : ℕ) where
     pub with_marks_word : (i : ℕ) (u : List ℕ) → Moves n u → Fits k i (length u) → Word n k (with_marks i u)
@@ -108,7 +106,7 @@ module _ (n : ℕ) (few : n ≤ 12) where
     with_marks_below i u moves fits = code_below n few k (with_marks i u) (with_marks_word i u moves fits)
 
     pub moves_below : (u : List ℕ) → Moves n u → length u ≤ k → code n u < base n ^ k
-    moves_below u moves short = code_below n few k u (record { items = moves_items u moves; short = short })
+    moves_below = code_of_moves n k few
 
     -- the turn of a window lies below four times the base's power
     pub turn_below : (i : ℕ) (u : List ℕ) → i < 4 → Moves n u → Fits k i (length u) → turn n i u < 4 * base n ^ k

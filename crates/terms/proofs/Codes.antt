@@ -6,49 +6,35 @@ use Rattle.std.specs.Int.Digits.{number_from_digits, digits_of}
 use Rattle.std.proofs.lemmas.Int.Digits.{number_push, number_lt, digits_of_step}
 use Rattle.std.proofs.lemmas.List.Elements.{All-head, All-map, All-tail, All-weaker, recursion_from_All}
 use Rattle.std.proofs.lemmas.List.{length-map, length_push, map_push, take_more}
-use Rattle.std.proofs.lemmas.Bool.{eq-eqb, ne_eqb, cases_eq}
+use Rattle.std.proofs.lemmas.Bool.{cases_eq}
+use Rattle.std.proofs.lemmas.Bool.Decides.{nat_tests}
 use Rattle.terms.proofs.Ends.{from_the_end, by_ends, all_before_last}
 use Rattle.terms.specs.Codes.{Item, Word, base, digit, item, code}
-use Rattle.terms.specs.Words.{Move, start_mark, end_mark}
+use Rattle.terms.specs.Words.{Move}
 
 -- digits of which none is 0
 abbrev pub Positive : ℕ → List ℕ → Type 0
 Positive b ds = All (λ d. (1 ≤ d) × (d < b)) ds
 
 module _ (n : ℕ) (few : n ≤ 12) where
-  pub digit_start : digit n start_mark ≡ n + 1
-  digit_start = refl
-
-  pub digit_end : digit n end_mark ≡ n + 2
-  digit_end = refl
-
   pub digit_move : (x : ℕ) → Move n x → digit n x ≡ x
-  digit_move x m = rw (ne_eqb x start_mark (λ e. omega arith), ne_eqb x end_mark (λ e. omega arith))
+  digit_move x m = grind (arith, nat_tests)
 
   pub digit_range : (x : ℕ) → Item n x → (1 ≤ digit n x) × (digit n x < base n)
-  digit_range x (inl m) = rw (digit_move x m) (omega arith)
-  digit_range x (inr (inl e)) = rw e (omega arith)
-  digit_range x (inr (inr e)) = rw e (omega arith)
+  digit_range x i = (grind (arith, nat_tests), grind (arith, nat_tests))
 
   pub item_digit : (x : ℕ) → Item n x → item n (digit n x) ≡ x
-  item_digit x (inl m) = rw (digit_move x m) (rw (ne_eqb x (n + 1) (λ e. omega arith), ne_eqb x (n + 2) (λ e. omega arith)))
-  item_digit x (inr (inl e)) = rw e (rw (eq-eqb (n + 1) (n + 1) refl))
-  item_digit x (inr (inr e)) = rw e (rw (ne_eqb (n + 2) (n + 1) (λ f. omega arith), eq-eqb (n + 2) (n + 2) refl))
+  item_digit x i = grind (arith, nat_tests)
 
   -- a digit from 1 to n + 2 is that of its item
   pub digit_item : (d : ℕ) → 1 ≤ d → d < base n → Item n (item n d) × (digit n (item n d) ≡ d)
-  digit_item d low high =
-      ⊎_elim
-      (λ e. let is : item n d ≡ start_mark = rw (eq-eqb d (n + 1) e) in (inr (inl is), ap (digit n) is ∙ sym e))
-      (λ other.
-      ⊎_elim
-      (λ e. let is : item n d ≡ end_mark = rw (ne_eqb d (n + 1) other, eq-eqb d (n + 2) e) in (inr (inr is), ap (digit n) is ∙ sym e))
-      (λ neither.
-      let is : item n d ≡ d = rw (ne_eqb d (n + 1) other, ne_eqb d (n + 2) neither) in
-      let move : Move n d = omega arith in
-      (inl (subst (Move n) (sym is) move), ap (digit n) is ∙ digit_move d move))
-      (cases_eq d (n + 2)))
-      (cases_eq d (n + 1))
+  digit_item d low high = (
+    elim (cases_eq d (n + 1)) [
+      | inl start ↦ inr (inl (grind (arith, nat_tests)))
+      | inr other ↦ elim (cases_eq d (n + 2)) [ inl end ↦ inr (inr (grind (arith, nat_tests))) | inr neither ↦ inl (grind (arith, nat_tests), grind (arith, nat_tests)) ]
+    ],
+    grind (arith, nat_tests),
+  )
 
   pub positive : (u : List ℕ) → All (Item n) u → Positive (base n) (map (digit n) u)
   positive u items = All-map (λ d. (1 ≤ d) × (d < base n)) (digit n) u (All-weaker (Item n) (λ x. (1 ≤ digit n x) × (digit n x < base n)) digit_range u items)
@@ -66,7 +52,7 @@ module _ (b : ℕ) (two : 2 ≤ b) where
       let parts = all_before_last (λ x. (1 ≤ x) × (x < b)) es d h in
       let last = number_last es d parts.1.1 in
       let more : 0 < number_from_digits b (es ++ (d ∷ [])) = rw (number_push b es d) (omega (arith, parts.1.0)) in
-      digits_of_step b (number_from_digits b (es ++ (d ∷ []))) two more ∙ ap (λ m. digits_of b m ++ (number_from_digits b (es ++ (d ∷ [])) % b ∷ [])) last.0 ∙ ap (λ l. l ++ (number_from_digits b (es ++ (d ∷ [])) % b ∷ [])) (before parts.0) ∙ ap (λ x. es ++ (x ∷ [])) last.1)
+      rw (digits_of_step b (number_from_digits b (es ++ (d ∷ []))) two more, last.0, last.1, before parts.0))
       (λ h. refl)
 
   -- more digits write a larger number

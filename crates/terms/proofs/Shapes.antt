@@ -2,7 +2,7 @@
 use Rattle.std.proofs.Common.{◌≡◌, ℕ, suc, ◌+◌, ◌<◌, ◌≤◌, ◌⊎◌, List, [], ◌∷◌, ◌++◌, length, sym, refl, ap, ◌∙◌, inl, inr, ⊎_elim, append_assoc, append-nil, arith, length-append}
 use Rattle.std.proofs.lemmas.List.{same_from_push, length_push}
 use Rattle.terms.proofs.Ends.{from_the_end}
-use Rattle.terms.specs.Words.{Moves, start_mark, end_mark, marked, Contains, Begins, Ends, WindowOf, IsWindow}
+use Rattle.terms.specs.Words.{Moves, start_mark, end_mark, marked, HasRun, Begins, Ends, WindowOf, IsWindow}
 
 pub length_marked : (w : List ℕ) → length (marked w) ≡ length w + 2
 length_marked w = omega (arith, length-append w (end_mark ∷ []))
@@ -12,7 +12,7 @@ pub data Shape (k : ℕ) (w u : List ℕ) : Type 0 where
   whole : length (marked w) ≤ k → u ≡ marked w → Shape k w u
   at_front : (p : List ℕ) → Begins w p → suc (length p) ≡ k → u ≡ start_mark ∷ p → Shape k w u
   at_back : (p : List ℕ) → Ends w p → suc (length p) ≡ k → u ≡ p ++ (end_mark ∷ []) → Shape k w u
-  inside : Contains w u → length u ≡ k → Shape k w u
+  inside : HasRun w u → length u ≡ k → Shape k w u
 
 -- both ends of a split of w and its end mark: what follows is empty, or ends in the mark
 cut_end : (w before after : List ℕ) → w ++ (end_mark ∷ []) ≡ before ++ after → (after ≡ []) ⊎ ((v : List ℕ) × (w ≡ before ++ v) × (after ≡ v ++ (end_mark ∷ [])))
@@ -48,7 +48,7 @@ module _ {k : ℕ} {w u : List ℕ} (some : 1 ≤ k) (long : length u ≡ k) (mo
       (λ r. inside (before, r.0, r.1 ∙ append_assoc before u r.0) long)
       (cut_end w (before ++ u) after (e ∙ sym (append_assoc before u after)))
 
-  shape_of_run : Contains (marked w) u → Shape k w u
+  shape_of_run : HasRun (marked w) u → Shape k w u
   shape_of_run ([], after, e) = shape_at_front after e
   shape_of_run (b ∷ before, after, e) = let rest : w ++ (end_mark ∷ []) ≡ before ++ (u ++ after) = cc in shape_behind before after rest
 

@@ -1,7 +1,7 @@
 -- The list of windows is what the law of cutting says, and has exactly the windows of the relation.
-use Rattle.std.proofs.Common.{◌≡◌, ℕ, ◌+◌, ◌-◌, ◌<◌, ◌≤◌, List, [], ◌∷◌, ◌++◌, length, get_or, take, drop, Contains as Has, sym, refl, ap, ◌∙◌, subst, inl, inr, ⊎_elim, arith, length-append, length-drop, take-append-drop}
+use Rattle.std.proofs.Common.{◌≡◌, ℕ, ◌+◌, ◌-◌, ◌<◌, ◌≤◌, List, [], ◌∷◌, ◌++◌, length, get_or, take, drop, Contains, sym, refl, ap, ◌∙◌, subst, inl, inr, ⊎_elim, arith, length-append, length-drop, take-append-drop}
 use Rattle.std.proofs.lemmas.List.FromFn.{length-map-range_with_len, get_or-map-range_with_len}
-use Rattle.std.proofs.lemmas.List.{same_lists, length-take-le, take_at, drop_at, get_or_default}
+use Rattle.std.proofs.lemmas.List.{length-take-le, take_at, drop_at, get_or_default}
 use Rattle.std.proofs.lemmas.Bool.{le-leb, lt-leb, cases_lt}
 use Rattle.terms.specs.Words.{RunAt, Cuts, run, runs, windows, WindowOf}
 
@@ -45,26 +45,15 @@ cuts_windows k w = record {
 pub cuts_from_windows : (k : ℕ) (w : List ℕ) (ws : List (List ℕ)) → ws ≡ windows k w → Cuts k w ws
 cuts_from_windows k w ws e = subst (Cuts k w) (sym e) (cuts_windows k w)
 
--- and of no other list
-pub windows_from_cuts : (k : ℕ) (w : List ℕ) (ws : List (List ℕ)) → Cuts k w ws → ws ≡ windows k w
-windows_from_cuts k w ws c =
-    ⊎_elim
-    (λ long.
-    let many : length ws ≡ length w + 1 - k = c.places long ∙ omega arith in
-    same_lists ws (windows k w) (many ∙ sym (ap length (windows_long k w long) ∙ length_runs k w))
-    (λ p d l. get_or_default ws p d [] l ∙ run_is (c.runs long p l) ∙ sym (ap (λ vs. get_or vs p d) (windows_long k w long) ∙ getD_runs k w p d (omega arith))))
-    (λ short. c.short short ∙ sym (windows_short k w short))
-    (cases_lt k (length w))
-
 -- a window of the list stands at some place, and what stands at a place is a window
-pub window_has : (k : ℕ) (w u : List ℕ) → WindowOf k w u → Has (windows k w) u
+pub window_has : (k : ℕ) (w u : List ℕ) → WindowOf k w u → Contains (windows k w) u
 window_has k w u (inl (h, e)) = rw (windows_short k w h) (0, omega arith, sym e)
 window_has k w u (inr (h, long, (before, after, split))) =
     let total : length w ≡ length before + (length u + length after) = ap length split ∙ length-append before (u ++ after) ∙ ap (λ m. length before + m) (length-append u after) in
     let at : RunAt w k (length before) u = record { before = before; after = after; split = split; place = refl; long = long } in
     rw (windows_long k w h) (length before, rw (length_runs k w) (omega arith), getD_runs k w (length before) u (omega arith) ∙ sym (run_is at))
 
-pub has_window : (k : ℕ) (w u : List ℕ) → Has (windows k w) u → WindowOf k w u
+pub has_window : (k : ℕ) (w u : List ℕ) → Contains (windows k w) u → WindowOf k w u
 has_window k w u (p, l, at) =
     ⊎_elim
     (λ long.
@@ -76,5 +65,5 @@ has_window k w u (p, l, at) =
     inl (short, sym (get_or_default (windows k w) p w u l ∙ at) ∙ ap (λ ws. get_or ws p w) (windows_short k w short) ∙ ap (λ q. get_or (w ∷ []) q w) one))
     (cases_lt k (length w))
 
-pub members_from_windows : (k : ℕ) (w : List ℕ) (ws : List (List ℕ)) → ws ≡ windows k w → (u : List ℕ) → (Has ws u → WindowOf k w u) × (WindowOf k w u → Has ws u)
-members_from_windows k w ws e u = (λ has. has_window k w u (subst (λ vs. Has vs u) e has), λ of. subst (λ vs. Has vs u) (sym e) (window_has k w u of))
+pub members_from_windows : (k : ℕ) (w : List ℕ) (ws : List (List ℕ)) → ws ≡ windows k w → (u : List ℕ) → (Contains ws u → WindowOf k w u) × (WindowOf k w u → Contains ws u)
+members_from_windows k w ws e u = (λ has. has_window k w u (subst (λ vs. Contains vs u) e has), λ of. subst (λ vs. Contains vs u) (sym e) (window_has k w u of))

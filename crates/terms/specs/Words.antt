@@ -31,8 +31,8 @@ abbrev pub marked : List ℕ → List ℕ
 marked w = start_mark ∷ (w ++ (end_mark ∷ []))
 
 -- w has u as consecutive items, at its front, at its end
-abbrev pub Contains : List ℕ → List ℕ → Type 0
-Contains w u = (before : List ℕ) × (after : List ℕ) × (w ≡ before ++ (u ++ after))
+abbrev pub HasRun : List ℕ → List ℕ → Type 0
+HasRun w u = (before : List ℕ) × (after : List ℕ) × (w ≡ before ++ (u ++ after))
 
 abbrev pub Begins : List ℕ → List ℕ → Type 0
 Begins w u = (after : List ℕ) × (w ≡ u ++ after)
@@ -68,11 +68,11 @@ windows k w = if nat_le (length w) k then w ∷ [] else runs k w
 
 -- u is a window of the list w
 abbrev pub WindowOf : ℕ → List ℕ → List ℕ → Type 0
-WindowOf k w u = ((length w ≤ k) × (u ≡ w)) ⊎ ((k < length w) × (length u ≡ k) × Contains w u)
+WindowOf k w u = ((length w ≤ k) × (u ≡ w)) ⊎ ((k < length w) × (length u ≡ k) × HasRun w u)
 
 -- u is a run of k items of some marked list longer than k
 abbrev pub LongWindow : ℕ → ℕ → List ℕ → Type 0
-LongWindow n k u = (w : List ℕ) × Moves n w × (k < length (marked w)) × (length u ≡ k) × Contains (marked w) u
+LongWindow n k u = (w : List ℕ) × Moves n w × (k < length (marked w)) × (length u ≡ k) × HasRun (marked w) u
 
 -- u is both marks around at most k - 2 moves
 abbrev pub ShortWindow : ℕ → ℕ → List ℕ → Type 0

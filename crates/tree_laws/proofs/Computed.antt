@@ -1,10 +1,10 @@
 -- Standings: from bits to facts and back, worked out from the children, and one for each word.
-use Rattle.std.proofs.Common.{◌≡◌, ℕ, zero, suc, ◌+◌, ◌-◌, ◌*◌, ◌/◌, ◌%◌, ◌<◌, ◌≤◌, Bool, true, false, cond, not, eqb, ◌↔◌, List, length, get_or, Decides, All, sym, refl, ap, ◌∙◌, ⊎_elim, mod-eq_of_lt, one-mul, div-add-mod', zero-mul, div-one, arith, length-drop, length-take}
-use lib.Bits.{bit_and, and_high}
+use Rattle.std.proofs.Common.{◌≡◌, ℕ, zero, suc, ◌+◌, ◌-◌, ◌/◌, ◌<◌, ◌≤◌, Bool, true, false, cond, not, eqb, ◌↔◌, List, length, get_or, Decides, All, sym, refl, ap, ◌∙◌, ⊎_elim, arith, length-drop, length-take}
+use lib.Bits.{bit_and}
 use Rattle.std.proofs.lemmas.Nat.{shr-shr}
 use Rattle.std.proofs.lemmas.List.Elements.{All-cons, All-drop, All-head, All-nil, All-tail, All-take}
 use Rattle.std.proofs.lemmas.Bool.{eqb-true, eq-eqb, not_from_true, both_ways, cases_Bool}
-use Rattle.std.proofs.lemmas.Bool.Decides.{same_from_decides, Decides-at, Decides-like}
+use Rattle.std.proofs.lemmas.Bool.Decides.{nat_tests, same_from_decides, Decides-at, Decides-like}
 use Rattle.terms.specs.Words.{Move, Moves}
 use Rattle.tree_laws.specs.declared.Node.{Node}
 use Rattle.tree_laws.specs.declared.Node.TheVariants.{Skip, Move as Single, Choice, Sequence, Loop, Parallel}
@@ -22,40 +22,11 @@ use Rattle.tree_laws.proofs.LoopStandings.{loop_right}
 
 -- ---- the sum of the bits
 
-unit : Bool → ℕ
-unit c = cond c 1 0
-
-unit_below : (c : Bool) → unit c < 2
-unfolding unit
-unit_below true = omega arith
-unit_below false = omega arith
-
-scaled : (c : Bool) (m : ℕ) → cond c m 0 ≡ unit c * m
-unfolding unit
-scaled true m = sym (one-mul m)
-scaled false m = sym (zero-mul m)
-
-unit_on : (c : Bool) → eqb (unit c) 1 ≡ c
-unfolding unit
-unit_on true = refl
-unit_on false = refl
-
-digit_value : (d m : ℕ) → d < 2 → cond (eqb d 1) m 0 ≡ d * m
-digit_value zero m h = sym (zero-mul m)
-digit_value (suc zero) m h = sym (one-mul m)
-digit_value (suc (suc d)) m h = absurd (omega arith)
-
 sum_of_bits : (s : ℕ) → s < 16 → s ≡ cond (on s 0) 1 0 + cond (on s 1) 2 0 + cond (on s 2) 4 0 + cond (on s 3) 8 0
 sum_of_bits s h =
     let quarter : s / 2 / 2 ≡ s / 4 = shr-shr s 1 1 in
     let eighth : s / 4 / 2 ≡ s / 8 = shr-shr s 2 1 in
-    let last : s / 8 % 2 ≡ s / 8 = mod-eq_of_lt (omega arith) in
-    let e₀ : s / 2 * 2 + s % 2 ≡ s = div-add-mod' s 2 in
-    let e₁ : s / 4 * 2 + s / 2 % 2 ≡ s / 2 = ap (λ q. q * 2 + s / 2 % 2) (sym quarter) ∙ div-add-mod' (s / 2) 2 in
-    let e₂ : s / 8 * 2 + s / 4 % 2 ≡ s / 4 = ap (λ q. q * 2 + s / 4 % 2) (sym eighth) ∙ div-add-mod' (s / 4) 2 in
-    let sum : s ≡ s % 2 + (s / 2 % 2) * 2 + (s / 4 % 2) * 4 + (s / 8 % 2) * 8 = omega arith in
-    let one : s / 1 % 2 ≡ s % 2 = ap (λ q. q % 2) (div-one s) in
-    omega (arith, digit_value (s / 1 % 2) 1 (omega arith), digit_value (s / 2 % 2) 2 (omega arith), digit_value (s / 4 % 2) 4 (omega arith), digit_value (s / 8 % 2) 8 (omega arith))
+    grind (arith, nat_tests)
 
 record Digits (c b e w : Bool) (s : ℕ) : Type 0 where
   small : s < 16
@@ -66,24 +37,16 @@ record Digits (c b e w : Bool) (s : ℕ) : Type 0 where
 
 bits_of_sum : (c b e w : Bool) (s : ℕ) → s ≡ cond c 1 0 + cond b 2 0 + cond e 4 0 + cond w 8 0 → Digits c b e w s
 bits_of_sum c b e w s is =
-    let p = unit_below c in
-    let q = unit_below b in
-    let r = unit_below e in
-    let t = unit_below w in
-    let sum : s ≡ unit c * 1 + unit b * 2 + unit e * 4 + unit w * 8 = is ∙ (λ i. scaled c 1 i + scaled b 2 i + scaled e 4 i + scaled w 8 i) in
-    let half : s / 2 ≡ unit b + unit e * 2 + unit w * 4 = omega arith in
-    let quarter : s / 4 ≡ unit e + unit w * 2 = sym (shr-shr s 1 1) ∙ omega arith in
-    let eighth : s / 8 ≡ unit w = sym (shr-shr s 2 1) ∙ omega arith in
-    let d₀ : s / 1 % 2 ≡ unit c = ap (λ q. q % 2) (div-one s) ∙ omega arith in
-    let d₁ : s / 2 % 2 ≡ unit b = ap (λ q. q % 2) half ∙ omega arith in
-    let d₂ : s / 4 % 2 ≡ unit e = ap (λ q. q % 2) quarter ∙ omega arith in
-    let d₃ : s / 8 % 2 ≡ unit w = ap (λ q. q % 2) eighth ∙ mod-eq_of_lt t in
+    let kc = cases_Bool c in
+    let kb = cases_Bool b in
+    let ke = cases_Bool e in
+    let kw = cases_Bool w in
     record {
-      small = omega arith;
-      first = ap (λ d. eqb d 1) d₀ ∙ unit_on c;
-      second = ap (λ d. eqb d 1) d₁ ∙ unit_on b;
-      third = ap (λ d. eqb d 1) d₂ ∙ unit_on e;
-      fourth = ap (λ d. eqb d 1) d₃ ∙ unit_on w;
+      small = grind (arith, nat_tests);
+      first = grind (arith, nat_tests);
+      second = grind (arith, nat_tests);
+      third = grind (arith, nat_tests);
+      fourth = grind (arith, nat_tests);
     }
 
 module _ {t : List Node} {v : ℕ} {u : List ℕ} {s : ℕ} where

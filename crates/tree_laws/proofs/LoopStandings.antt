@@ -1,7 +1,7 @@
 -- The states of a loop are its boundaries, and the standing of a word in it is what its laws say.
 use Rattle.std.proofs.Common.{◌≡◌, ℕ, zero, suc, ◌+◌, ◌-◌, ◌/◌, ◌^◌, ◌<◌, ◌≤◌, Bool, true, false, ◌&&◌, ◌||◌, eqb, ◌⊎◌, List, [], ◌∷◌, ◌++◌, length, get_or, take, drop, Decides, sym, refl, ap, ◌∙◌, subst, inl, inr, ⊎_elim, append-nil, add-one, arith, length-append, take-append-drop, length-take-le, take-take, take-add}
 use mathlib.Core.Bool.{or-false, and-true, and-false, false≢true}
-use lib.Bits.{bit_and, bit_or, or_lt, and_high}
+use lib.Bits.{bit_and, bit_or, or_lt}
 use lib.Seq.{take-append_seam, drop-append_seam, take-length}
 use Rattle.std.proofs.lemmas.List.{drop-take, get_or_append_left, get_or_push, length_push}
 use Rattle.std.proofs.lemmas.Bool.{eqb-true, eq-eqb, both_ways, cases_lt}
@@ -15,7 +15,7 @@ use Rattle.tree_laws.proofs.Bits.{on, on_or, on_and, on_shift, on_none, on_ors, 
 use Rattle.tree_laws.proofs.Standings.{place, Right, Closed, upper, lower, neither, and_small}
 
 turns_differ : next_b ≡ next_a → ⊥
-turns_differ e = let z : ◌≡◌ {A = ℕ} 0 1 = ap (of_turn 1 0) e in omega arith
+turns_differ e = cc
 
 module _ {L : Turn → Language} {Ok : List ℕ → Type 0} (closed : Closed Ok) (sa sb : List ℕ → ℕ)
     (right : (m : Turn) (w : List ℕ) → Ok w → Right (L m) w (of_turn sa sb m w)) (u : List ℕ) (ok : Ok u) where

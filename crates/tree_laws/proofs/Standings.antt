@@ -79,22 +79,13 @@ choice_right {s = s} {r} ra rb = record {
 -- ---- sequence
 
 pub upper : (c d : Bool) → ((c && false) || (d && true)) ≡ d
-upper true true = refl
-upper true false = refl
-upper false true = refl
-upper false false = refl
+upper c d = let x = cases_Bool c in let y = cases_Bool d in grind arith
 
 pub lower : (c d : Bool) → ((c && true) || (d && false)) ≡ c
-lower true true = refl
-lower true false = refl
-lower false true = refl
-lower false false = refl
+lower c d = let x = cases_Bool c in let y = cases_Bool d in grind arith
 
 pub neither : (c d : Bool) → ((c && false) || (d && false)) ≡ false
-neither true true = refl
-neither true false = refl
-neither false true = refl
-neither false false = refl
+neither c d = let x = cases_Bool c in let y = cases_Bool d in grind arith
 
 masked_on : (s mask j i : ℕ) → on (bit_or (bit_and s mask) (bit_and s mask / 2 ^ j)) i ≡ ((on s i && on mask i) || (on s (j + i) && on mask (j + i)))
 masked_on s mask j i =

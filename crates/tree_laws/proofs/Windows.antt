@@ -1,8 +1,9 @@
 -- What holds at every node of a well-formed table, and which windows its root plays.
-use Rattle.std.proofs.Common.{◌≡◌, ℕ, ◌+◌, ◌<◌, ◌≤◌, Bool, true, false, List, [], ◌∷◌, ◌++◌, length, drop, All, sym, refl, ap, ◌∙◌, subst, inl, inr, append_assoc, append-nil, arith, length-append}
+use Rattle.std.proofs.Common.{◌≡◌, ℕ, ◌+◌, ◌<◌, ◌≤◌, Bool, true, false, List, [], ◌∷◌, ◌++◌, length, drop, sym, refl, ap, ◌∙◌, subst, inl, inr, append_assoc, append-nil, arith, length-append}
 use Rattle.std.proofs.lemmas.List.{append_cancel_right}
-use Rattle.std.proofs.lemmas.List.Elements.{All-cons, All-head, All-nil, All-tail}
+use Rattle.std.proofs.lemmas.List.Elements.{All-head, All-tail}
 use Rattle.terms.specs.Words.{Move, Moves, start_mark, end_mark, marked}
+use Rattle.terms.proofs.Ends.{all_parts}
 use Rattle.tree_laws.specs.declared.Node.{Node}
 use Rattle.tree_laws.specs.Routes.{Route, WellFormed}
 use Rattle.tree_laws.specs.Facts.{SomeContains, SomeBegins, SomeEnds, Playable}
@@ -10,10 +11,6 @@ use Rattle.tree_laws.specs.Laws.{NodeLaws, Shape, WindowLaws}
 use Rattle.tree_laws.proofs.Splits.{carry}
 use Rattle.tree_laws.proofs.Parts.{widen}
 use Rattle.tree_laws.proofs.Nodes.{Fact, to_part, from_part, some_route, route_moves}
-
-pub all_parts : (P : ℕ → Type 0) (x y : List ℕ) → All P (x ++ y) → All P x × All P y
-all_parts P [] y h = (All-nil P, h)
-all_parts P (a ∷ x) y h = let r = all_parts P x y (All-tail P _ _ h) in (All-cons P _ _ (All-head P _ _ h) r.0, r.1)
 
 contains_part : {t : List Node} {v : ℕ} (x u y : List ℕ) → SomeContains t v (x ++ (u ++ y)) → SomeContains t v u
 contains_part x u y (w, r, (p, q, e)) = (w, r, (p ++ x, y ++ q, e ∙ simp append_assoc))

@@ -1,12 +1,12 @@
 -- What a word is at a node: contained in some route, the beginning of one, the end of one, or a route.
 use Rattle.std.specs.Prelude.{◌≡◌, ℕ, ◌+◌, Bool, if◌then◌else◌, List, length, Decides}
-use Rattle.terms.specs.Words.{Contains, Begins, Ends, WindowOf, marked}
+use Rattle.terms.specs.Words.{HasRun, Begins, Ends, WindowOf, marked}
 use Rattle.tree_laws.specs.declared.Node.{Node}
 use Rattle.tree_laws.specs.Routes.{Route}
 
 -- some route of node v has u as consecutive moves
 abbrev pub SomeContains : List Node → ℕ → List ℕ → Type 0
-SomeContains t v u = (w : List ℕ) × Route t v w × Contains w u
+SomeContains t v u = (w : List ℕ) × Route t v w × HasRun w u
 
 abbrev pub SomeBegins : List Node → ℕ → List ℕ → Type 0
 SomeBegins t v u = (w : List ℕ) × Route t v w × Begins w u

@@ -4,7 +4,7 @@ use Rattle.std.specs.List.{cons_option, reduce}
 use Rattle.std.proofs.Common.{sym, ap, ◌∙◌, subst, inl, inr, arith}
 use Rattle.std.proofs.lemmas.List.Elements.{All-cons, All-contains, All-get_or, All-nil, All-weaker, Contains-append_right}
 use Rattle.std.proofs.lemmas.List.Sums.{AllPass-from_list_all}
-use Rattle.std.proofs.lemmas.Bool.{cases_Bool, cases_lt, and_parts, leb-true, le-leb, cond-true, cond-false, both_ways, false_from_ne_true}
+use Rattle.std.proofs.lemmas.Bool.{cases_Bool, cases_lt, and_parts, leb-true, le-leb, cond-false, both_ways, false_from_ne_true}
 use Rattle.std.proofs.lemmas.Bool.Decides.{Decides-and}
 use Rattle.terms.specs.Words.{Move}
 use Rattle.weighings.specs.Weights.{InRange, move_weights, move_weight, is_move, weight_if_move, dearest, HasMove, IsDearest}
@@ -26,7 +26,7 @@ decides_move : (x : ℕ) → Decides (is_move x) (Move 12 x)
 decides_move x = Decides-and (nat_le 1 x) (nat_le x 12) (leb-true 1 x, le-leb 1 x) (leb-true x 12, le-leb x 12)
 
 weighs : (x : ℕ) → Move 12 x → weight_if_move x ≡ Some (move_weight x)
-weighs x move = cond-true (is_move x) _ _ ((decides_move x).1 move)
+weighs x move = rw ((decides_move x).1 move)
 
 weighs_nothing : (x : ℕ) → (Move 12 x → ⊥) → weight_if_move x ≡ None
 weighs_nothing x other = cond-false (is_move x) _ _ (false_from_ne_true (is_move x) (λ e. other ((decides_move x).0 e)))
