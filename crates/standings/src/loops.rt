@@ -108,6 +108,7 @@ impl<R: Rack> Children<'_, R> {
         ensures answer { result ≡ by_rows R.view self.old (run_standing middle) word.now }
         ensures unaltered { Unaltered R.view self.old self.new }
     {
+        // A word of five items has six positions.
         let mut states = FixedVec::<States, 6>::new();
         for _ in 0..word.len() + 1 {
             let next = self.reached(middle, word, states.as_slice());

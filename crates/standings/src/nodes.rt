@@ -1,9 +1,8 @@
 // The standing of a word at a node.
 ghost use Rattle.std.specs.Prelude.{◌≡◌, ◌<◌, ◌≤◌, length};
-ghost use Rattle.tree_laws.specs.Computed.{standing_of};
 ghost use Rattle.terms.specs.Words.{Moves};
 ghost use Rattle.tree_laws.specs.Children.{first_child, second_child};
-ghost use Rattle.standings.specs.Rows.{ShortMoves, rows_in, standing_by};
+ghost use Rattle.standings.specs.Rows.{ShortMoves, standing_by};
 
 use crate::children::Children;
 use crate::leaves::{single, skip};
@@ -28,7 +27,7 @@ fn children(node: Node) -> (u8, u8)
 // Each kind of node in its own way.
 fn by_kind<R: Rack>(alphabet: &Alphabet, node: Node, rack: &mut R, word: &[u8]) -> u32
     requires { ShortMoves alphabet.now word.now }
-    ensures answer { result ≡ standing_of node (rows_in alphabet.now (R.view rack.old) (first_child node)) (rows_in alphabet.now (R.view rack.old) (second_child node)) word.now }
+    ensures answer { result ≡ standing_by alphabet.now.moves alphabet.now.order (R.view rack.old).number node word.now }
     ensures unaltered { R.view rack.new ≡ R.view rack.old }
 {
     let (first, second) = children(node);
