@@ -69,7 +69,7 @@ impl Tree {
         ensures memory { SameMemory (R.view rack.old) (R.view rack.new) }
     {
         let word = self.word(parent);
-        for x in 1..self.alphabet.moves() + 1 {
+        for x in 1..=self.alphabet.moves() {
             let longer = word.pushed(x).unwrap();
             self.place(rack, m, longer.items())?;
         }

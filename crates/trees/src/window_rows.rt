@@ -62,18 +62,17 @@ fn started(items: &[u8]) -> Option<Word>
 
 impl Tree {
     // The window of these moves and marks; nothing where they make none.
-    fn window(&self, moves: &[u8], marks: Marks) -> Option<Word>
-        requires { length moves.now ≤ 5 }
-        ensures { MatchOption result (Fits self.now.alphabet.order (marks_number marks) (length moves.now) → ⊥) (λ w. Fits self.now.alphabet.order (marks_number marks) (length moves.now) × (word_items w ≡ with_marks (marks_number marks) moves.now)) }
+    fn window(&self, moves: Word, marks: Marks) -> Option<Word>
+        ensures { MatchOption result (Fits self.now.alphabet.order (marks_number marks) (length (word_items moves)) → ⊥) (λ w. Fits self.now.alphabet.order (marks_number marks) (length (word_items moves)) × (word_items w ≡ with_marks (marks_number marks) (word_items moves))) }
     {
-        if !marks.fit(self.alphabet.order(), moves.len()) {
+        if !marks.fit(self.alphabet.order(), moves.items().len()) {
             return None;
         }
         match marks {
-            Marks::Neither => Word::new(moves),
-            Marks::Start => started(moves),
-            Marks::End => Word::new(moves)?.pushed(END_MARK),
-            Marks::Both => started(moves)?.pushed(END_MARK),
+            Marks::Neither => Some(moves),
+            Marks::Start => started(moves.items()),
+            Marks::End => moves.pushed(END_MARK),
+            Marks::Both => started(moves.items())?.pushed(END_MARK),
         }
     }
 
@@ -81,13 +80,12 @@ impl Tree {
     fn put_window<R: Rack>(
         &self,
         rack: &mut R,
-        word: &[u8],
+        word: Word,
         standing: u32,
         marks: Marks,
     ) -> Result<(), Refusal>
-        requires short { length word.now ≤ 5 }
-        requires next { For self.now NextWindow word.now standing (marks_number marks) (R.view rack.old) }
-        ensures rows { MatchResult result (λ _. For self.now Windows (turn self.now.alphabet.moves (marks_number marks) word.now + 1) (R.view rack.new)) (λ _. For self.now MoreRows (R.view rack.new).room) }
+        requires { For self.now NextWindow (word_items word) standing (marks_number marks) (R.view rack.old) }
+        ensures rows { MatchResult result (λ _. For self.now Windows (turn self.now.alphabet.moves (marks_number marks) (word_items word) + 1) (R.view rack.new)) (λ _. For self.now MoreRows (R.view rack.new).room) }
         ensures memory { SameMemory (R.view rack.old) (R.view rack.new) }
     {
         if standing & marks.bit() == 0 {
@@ -118,7 +116,7 @@ impl Tree {
         let word = self.word(code);
         let standing = rack.read(self.root_start() + code);
         for marks in [Marks::Neither, Marks::Start, Marks::End, Marks::Both] {
-            self.put_window(rack, word.items(), standing, marks)?;
+            self.put_window(rack, word, standing, marks)?;
         }
         Ok(())
     }

@@ -86,7 +86,7 @@ fn rounds_of_a_loop(rt: HostRuntime) -> Result<(), Fail> {
     let alphabet = Alphabet::new(2, 5)?;
     let mut rows = [NO_ROW; 256];
     let mut rack = ListRack::new(&mut rows);
-    let _ = planted(2, 5, &LOOP, &mut rack);
+    planted(2, 5, &LOOP, &mut rack)?;
     assert_eq!(rt;
         rack.read(alphabet.code(b"\x01\x02\x01\x02\x01").unwrap_or(0)),
         1
