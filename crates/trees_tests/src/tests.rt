@@ -20,26 +20,14 @@ const SECOND: RawNode = RawNode {
     b: 0,
 };
 
-// Moves 1 and 2 in parallel, and in a loop.
-const PARALLEL: [RawNode; 3] = [
-    FIRST,
-    SECOND,
-    RawNode {
-        kind: 5,
-        a: 1,
-        b: 2,
-    },
-];
+// Moves 1 and 2 below a node of this kind.
+const fn over_both(kind: u16) -> [RawNode; 3] {
+    [FIRST, SECOND, RawNode { kind, a: 1, b: 2 }]
+}
 
-const LOOP: [RawNode; 3] = [
-    FIRST,
-    SECOND,
-    RawNode {
-        kind: 4,
-        a: 1,
-        b: 2,
-    },
-];
+const PARALLEL: [RawNode; 3] = over_both(5);
+
+const LOOP: [RawNode; 3] = over_both(4);
 
 fn planted<R: Rack>(n: u16, k: u16, table: &[RawNode], rack: &mut R) -> Result<u32, Refusal> {
     Tree::new(Alphabet::new(n, k)?, table)?.write_rows(rack)

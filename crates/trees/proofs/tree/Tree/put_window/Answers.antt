@@ -13,7 +13,6 @@ use Rattle.trees.proofs.tree.Tree.put_window.Goals as goal
 pub returns-then-standing-bit-eq0-clause-rows : goal.returns-then-standing-bit-eq0-clause-rows
 returns-then-standing-bit-eq0-clause-rows g c =
     let tree = c.args.self.now in
-    let a = tree.alphabet in
     let i = marks_number c.args.marks in
     pass_window (is_tree tree) (word_items c.args.word) c.args.standing i (marks_four c.args.marks) _
     (λ fits. bit_unset c.args.standing i c.bit.result c.bit.ensures c.if-standing-bit-eq0.true) c.requires
@@ -21,7 +20,6 @@ returns-then-standing-bit-eq0-clause-rows g c =
 pub returns-in_default-clause-rows : goal.returns-in_default-clause-rows
 returns-in_default-clause-rows g c =
     let tree = c.args.self.now in
-    let a = tree.alphabet in
     pass_window (is_tree tree) (word_items c.args.word) c.args.standing (marks_number c.args.marks) (marks_four c.args.marks) _
     (λ fits. absurd (c.in_default.ensures fits)) c.requires
 

@@ -46,5 +46,4 @@ loop-marks-preserved g c =
 pub returns-clause-rows : goal.returns-clause-rows
 returns-clause-rows g c =
     let tree = c.args.self.now in
-    let a = tree.alphabet in
     all_marks (is_tree tree) c.args.code _ _ c.loop-marks.marks-index _ c.word-word.ensures.code (omega (arith, c.loop-marks-test.false, c.loop-marks.auto)) c.loop-marks.invariant.0
