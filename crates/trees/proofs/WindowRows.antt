@@ -11,7 +11,7 @@ use Rattle.tree_laws.specs.Facts.{Playable, Standing}
 use Rattle.tree_laws.specs.declared.Node.{Node}
 use Rattle.racks.specs.Views.{View, LacksRoom, NoneBetween, Smallest, after_write, written}
 use Rattle.row_laws.specs.Progress.{NodeKey}
-use Rattle.row_laws.specs.Rows.{HasRow, MoreRows, row_key}
+use Rattle.row_laws.specs.Rows.{HasRow, MoreRows}
 use Rattle.row_laws.specs.Windowed.{with_marks, Fits, Windowed, turn}
 use Rattle.row_laws.proofs.WithMarks.{with_marks_below, with_marks_decides}
 use Rattle.row_laws.proofs.Windowed.{with_marks_row, windowed_none, windowed_before, windowed_write, windowed_pass, windowed_skip, windowed_rows, windowed_all}

@@ -1,4 +1,4 @@
-use Rattle.std.proofs.Common.{◌≡◌, ◌+◌, ◌*◌, ◌^◌, ◌<◌, ◌∷◌, [], ◌++◌, sym, refl, ◌∙◌, subst, arith, rules}
+use Rattle.std.proofs.Common.{◌+◌, ◌*◌, ◌^◌, ◌<◌, sym, refl, ◌∙◌, subst, arith, rules}
 use Rattle.terms.specs.Codes.{base, code}
 use Rattle.windows.specs.Values.{word_items}
 use Rattle.trees.specs.Planting.{NextWord, Underway}
