@@ -60,6 +60,12 @@ module _ {n k : ℕ} {t : List Node} (tree : IsTree n k t) where
     code_is = sym (digits_mod a.node (code_of_moves n k tree.few a.word a.moves a.short)) ∙ ap (λ j. j % base n ^ k) (sym a.key_is) ∙ digits_mod v low;
   }
 
+  -- where no key is held between two of a node's codes, no word between them has a row
+  pub no_rows : (f : ℕ → ℕ) (v start from c : ℕ) → start ≡ v * base n ^ k → NoneBetween f (start + from) (start + c) → (u : List ℕ) → from ≤ code n u → code n u < c → f (row_key n k v u) ≡ 0
+  no_rows f v start from c start_is gap u not_below below =
+      let key : row_key n k v u ≡ start + code n u = ap (λ s. s + code n u) (sym start_is) in
+      gap (row_key n k v u) (omega arith) (omega arith)
+
   module _ (c : ℕ) (known : CodeOfMoves n k c) where
     -- the code of a word of moves has a word
     pub has_word : ((u : List ℕ) → Word n k u → code n u ≢ c) → ⊥
@@ -158,8 +164,7 @@ module _ {n k : ℕ} {t : List Node} (tree : IsTree n k t) where
     -- from a code to one before which no word has a row
     skipped : (c : ℕ) → from ≤ c → NoneBetween v.number (start + from) (start + c) → InProgress n k t m (c * base n + 1) v.number
     skipped c later gap =
-        progress_skip n k tree.few t tree.formed m (omega arith) from c v.number later
-        (λ u moves short not_below below. let key : row_key n k (m + 1) u ≡ start + code n u = ap (λ s. s + code n u) (sym start_is) in gap (row_key n k (m + 1) u) (omega arith) (omega arith)) h.rows
+        progress_skip n k tree.few t tree.formed m (omega arith) from c v.number later (λ u moves short. no_rows v.number (m + 1) start from c start_is gap u) h.rows
 
     pub walk_ends : start + from ≤ end → NoneBetween v.number (start + from) end → Finished n k t (m + 1) v
     walk_ends low gap = record {

@@ -8,7 +8,7 @@ use Rattle.tree_laws.specs.Checked.{Checked}
 use Rattle.tree_laws.specs.Routes.{WellFormed, Proper, Lower}
 use Rattle.tree_laws.specs.declared.Node.{Node}
 use Rattle.tree_laws.specs.declared.Node.TheVariants.{Skip, Move as Single, Choice, Sequence, Loop, Parallel}
-use Rattle.trees.specs.Tables.{AllGood, FirstWrongNode, Good, WrongField, node_of}
+use Rattle.trees.specs.Tables.{AllGood, Good, node_of}
 use Rattle.trees.specs.declared.raw.RawNode.{RawNode}
 
 -- the first i triples are good, and these are their nodes
@@ -37,16 +37,6 @@ module _ (n : ℕ) (table : List RawNode) where
       record {
         good = λ j e h. below_more (λ q. (c : RawNode) → Good n (q + 1) (get_or table q c)) i (λ q l c. s.good q c l) (λ c. subst (Good n (i + 1)) (get_or_default table i d c inside) (subst (λ p. Good p (i + 1) (get_or table i d)) same good)) j h e;
         read = take_all 32 (nodes ++ (x ∷ [])) fits ∙ longer;
-      }
-
-  pub first_wrong_node : (i f : ℕ) (d : RawNode) (m : ℕ) → m ≡ n → i < length table → AllGood n table i → WrongField m (i + 1) (get_or table i d) f → FirstWrongNode n table (i + 1) f
-  first_wrong_node i f d m same inside good wrong =
-      let back : i ≡ i + 1 - 1 = omega arith in
-      record {
-        from_one = omega arith;
-        inside = omega arith;
-        wrong = λ e. subst (λ j. WrongField n (i + 1) (get_or table j e) f) back (subst (λ x. WrongField n (i + 1) x f) (get_or_default table i d e inside) (subst (λ p. WrongField p (i + 1) (get_or table i d) f) same wrong));
-        good_before = subst (AllGood n table) back good;
       }
 
   pub all_checked : (nodes : List Node) → AllGood n table (length table) → nodes ≡ map node_of table → Checked n nodes

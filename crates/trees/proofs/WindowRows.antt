@@ -11,7 +11,7 @@ use Rattle.tree_laws.specs.Facts.{Playable, Standing}
 use Rattle.tree_laws.specs.declared.Node.{Node}
 use Rattle.racks.specs.Views.{View, LacksRoom, NoneBetween, Smallest, after_write, written}
 use Rattle.row_laws.specs.Progress.{NodeKey}
-use Rattle.row_laws.specs.Rows.{HasRow, MoreRows, row_key}
+use Rattle.row_laws.specs.Rows.{HasRow, MoreRows}
 use Rattle.row_laws.specs.Windowed.{with_marks, Fits, Windowed, turn}
 use Rattle.row_laws.proofs.WithMarks.{with_marks_below, with_marks_decides}
 use Rattle.row_laws.proofs.Windowed.{with_marks_row, windowed_none, windowed_before, windowed_write, windowed_pass, windowed_skip, windowed_rows, windowed_all}
@@ -20,7 +20,7 @@ use Rattle.trees.specs.Planting.{CodeOfMoves, Finished, Windows, NextWindow, Com
 use Rattle.trees.specs.declared.window_rows.Marks.{Marks}
 use Rattle.trees.specs.declared.window_rows.Marks.TheVariants.{Neither, Start, End, Both}
 use Rattle.trees.proofs.Trees.{IsTree}
-use Rattle.trees.proofs.Planting.{written_or_more, code_of_row}
+use Rattle.trees.proofs.Planting.{written_or_more, code_of_row, no_rows}
 
 pub marks_four : (marks : Marks) → marks_number marks < 4
 marks_four Neither = omega arith
@@ -96,8 +96,7 @@ module _ {n k : ℕ} {t : List Node} (tree : IsTree n k t) where
     -- from a code to one before which no word has a row
     skipped : (c : ℕ) → from ≤ c → NoneBetween v.number (start + from) (start + c) → Windowed n k t (4 * c) v.number
     skipped c later gap =
-        windowed_skip n k t tree.few tree.wide tree.formed tree.some from c h.rows later
-        (λ u moves short not_below below. let key : row_key n k (length t) u ≡ start + code n u = ap (λ s. s + code n u) (sym start_is) in gap (row_key n k (length t) u) (omega arith) (omega arith))
+        windowed_skip n k t tree.few tree.wide tree.formed tree.some from c h.rows later (λ u moves short. no_rows tree v.number (length t) start from c start_is gap u)
 
     pub root_ends : start + from ≤ end → NoneBetween v.number (start + from) end → Complete n k t v
     root_ends low gap = record {

@@ -1,19 +1,26 @@
 -- What a rack holds while a tree's rows are put in, and what each step starts from.
-use Rattle.std.specs.Prelude.{◌≡◌, ℕ, ◌≤◌, List, length}
+use Rattle.std.specs.Prelude.{◌≡◌, ℕ, ◌≤◌, List, length, Result, MatchResult}
 use Rattle.terms.specs.Codes.{code}
 use Rattle.terms.specs.Words.{Moves}
+use Rattle.terms.specs.declared.Refusal.{Refusal}
 use Rattle.tree_laws.specs.Facts.{Standing}
 use Rattle.tree_laws.specs.declared.Node.{Node}
 use Rattle.racks.specs.Views.{View}
 use Rattle.row_laws.specs.Progress.{Upto, InProgress}
-use Rattle.row_laws.specs.Rows.{RowsAt, key_limit}
+use Rattle.row_laws.specs.Rows.{MoreRows, RowsAt, key_limit}
 use Rattle.row_laws.specs.Windowed.{Windowed, turn}
+use Rattle.trees.specs.Trees.{For}
+use Rattle.trees.specs.declared.tree.Tree.{Tree}
 
 -- only numbers are other ones: reach, room and lent memory are the same
 pub record SameMemory (before after : View) : Type 0 where
   pub reach : after.reach ≡ before.reach
   pub room : after.room ≡ before.room
   pub lent : after.lent ≡ before.lent
+
+-- what a step ends with where it is done; where it is refused, the tree has more rows than the room
+abbrev pub EndsWith : {X : Type 0} → Tree → (View → Type 0) → View → Result X Refusal → Type 0
+EndsWith tree After v r = MatchResult r (λ _. After v) (λ _. For tree MoreRows v.room)
 
 -- c is the code of a word of at most k moves
 pub record CodeOfMoves (n k c : ℕ) : Type 0 where

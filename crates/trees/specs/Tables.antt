@@ -1,5 +1,5 @@
 -- Which node a triple of numbers stands for, and which of its fields is wrong.
-use Rattle.std.specs.Prelude.{◌≡◌, ℕ, ◌+◌, ◌-◌, ◌<◌, ◌≤◌, cond, ◌⊎◌, List, [], ◌∷◌, length, ◌==◌, slice_index_or}
+use Rattle.std.specs.Prelude.{◌≡◌, ℕ, ◌+◌, ◌-◌, ◌<◌, ◌≤◌, if◌then◌else◌, ◌⊎◌, List, [], ◌∷◌, length, ◌==◌, slice_index_or}
 use Rattle.terms.specs.Refusals.{Says}
 use Rattle.terms.specs.Words.{Move}
 use Rattle.terms.specs.declared.Refusal.{Refusal}
@@ -35,11 +35,11 @@ WrongField n v x f =
 -- the node that a good triple stands for
 abbrev pub node_of : RawNode → Node
 node_of x =
-    cond (x.kind == 0) Skip
-    (cond (x.kind == 1) (Single x.a)
-    (cond (x.kind == 2) (Choice x.a x.b)
-    (cond (x.kind == 3) (Sequence x.a x.b)
-    (cond (x.kind == 4) (Loop x.a x.b) (Parallel x.a x.b)))))
+    if x.kind == 0 then Skip
+    else (if x.kind == 1 then Single x.a
+    else (if x.kind == 2 then Choice x.a x.b
+    else (if x.kind == 3 then Sequence x.a x.b
+    else (if x.kind == 4 then Loop x.a x.b else Parallel x.a x.b))))
 
 -- the first m nodes of the table are good
 abbrev pub AllGood : ℕ → List RawNode → ℕ → Type 0

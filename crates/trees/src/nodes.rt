@@ -1,10 +1,9 @@
 // The rows of the nodes: for each node, those of the words that some route contains, in the order of their codes.
-ghost use Rattle.std.specs.Prelude.{◌≡◌, ◌+◌, ◌-◌, ◌*◌, ◌^◌, ◌<◌, ◌≤◌, length, MatchResult};
-ghost use Rattle.row_laws.specs.Rows.{MoreRows};
+ghost use Rattle.std.specs.Prelude.{◌≡◌, ◌+◌, ◌-◌, ◌*◌, ◌^◌, ◌<◌, ◌≤◌, length};
 ghost use Rattle.terms.specs.Codes.{base, code as the_code};
 ghost use Rattle.terms.specs.Words.{Moves};
 ghost use Rattle.windows.specs.Values.{word_items};
-ghost use Rattle.trees.specs.Planting.{SameMemory, CodeOfMoves, Finished, Underway, NextWord};
+ghost use Rattle.trees.specs.Planting.{EndsWith, SameMemory, CodeOfMoves, Finished, Underway, NextWord};
 ghost use Rattle.trees.specs.Trees.{For, tree_nodes};
 
 use crate::tree::Tree;
@@ -27,7 +26,7 @@ impl Tree {
     fn write_row<R: Rack>(&self, rack: &mut R, m: usize, word: &[u8]) -> Result<(), Refusal>
         requires inside { m < length (tree_nodes self.now) }
         requires next { For self.now NextWord m word.now (R.view rack.old) }
-        ensures rows { MatchResult result (λ _. For self.now Underway m (the_code self.now.alphabet.moves word.now + 1) (R.view rack.new)) (λ _. For self.now MoreRows (R.view rack.new).room) }
+        ensures rows { EndsWith self.now (For self.now Underway m (the_code self.now.alphabet.moves word.now + 1)) (R.view rack.new) result }
         ensures memory { SameMemory (R.view rack.old) (R.view rack.new) }
     {
         let number = standing(&self.alphabet, self.nodes()[m], rack, word);
@@ -40,7 +39,7 @@ impl Tree {
         requires inside { m < length (tree_nodes self.now) }
         requires some { 0 < length word.now }
         requires next { For self.now NextWord m word.now (R.view rack.old) }
-        ensures rows { MatchResult result (λ _. For self.now Underway m (the_code self.now.alphabet.moves word.now + 1) (R.view rack.new)) (λ _. For self.now MoreRows (R.view rack.new).room) }
+        ensures rows { EndsWith self.now (For self.now Underway m (the_code self.now.alphabet.moves word.now + 1)) (R.view rack.new) result }
         ensures memory { SameMemory (R.view rack.old) (R.view rack.new) }
     {
         if row(&self.alphabet, rack, m as u8 + 1, &word[1..]) == 0 {
@@ -65,11 +64,11 @@ impl Tree {
         requires word { CodeOfMoves self.now.alphabet.moves self.now.alphabet.order parent }
         requires shorter { parent * base self.now.alphabet.moves < base self.now.alphabet.moves ^ self.now.alphabet.order }
         requires rows { For self.now Underway m (parent * base self.now.alphabet.moves + 1) (R.view rack.old) }
-        ensures rows { MatchResult result (λ _. For self.now Underway m ((parent + 1) * base self.now.alphabet.moves + 1) (R.view rack.new)) (λ _. For self.now MoreRows (R.view rack.new).room) }
+        ensures rows { EndsWith self.now (For self.now Underway m ((parent + 1) * base self.now.alphabet.moves + 1)) (R.view rack.new) result }
         ensures memory { SameMemory (R.view rack.old) (R.view rack.new) }
     {
         let word = self.word(parent);
-        for x in 1..self.alphabet.moves() + 1 {
+        for x in 1..=self.alphabet.moves() {
             let longer = word.pushed(x).unwrap();
             self.place(rack, m, longer.items())?;
         }
@@ -81,7 +80,7 @@ impl Tree {
     fn write_longer<R: Rack>(&self, rack: &mut R, m: usize) -> Result<(), Refusal>
         requires inside { m < length (tree_nodes self.now) }
         requires rows { For self.now Underway m 1 (R.view rack.old) }
-        ensures rows { MatchResult result (λ _. For self.now Finished (m + 1) (R.view rack.new)) (λ _. For self.now MoreRows (R.view rack.new).room) }
+        ensures rows { EndsWith self.now (For self.now Finished (m + 1)) (R.view rack.new) result }
         ensures memory { SameMemory (R.view rack.old) (R.view rack.new) }
     {
         let start = self.start(m + 1);
@@ -99,7 +98,7 @@ impl Tree {
     fn write_node<R: Rack>(&self, rack: &mut R, m: usize) -> Result<(), Refusal>
         requires inside { m < length (tree_nodes self.now) }
         requires rows { For self.now Finished m (R.view rack.old) }
-        ensures rows { MatchResult result (λ _. For self.now Finished (m + 1) (R.view rack.new)) (λ _. For self.now MoreRows (R.view rack.new).room) }
+        ensures rows { EndsWith self.now (For self.now Finished (m + 1)) (R.view rack.new) result }
         ensures memory { SameMemory (R.view rack.old) (R.view rack.new) }
     {
         self.write_row(rack, m, &[])?;
@@ -109,7 +108,7 @@ impl Tree {
     // Puts in the rows of all nodes, children before their parents.
     pub(crate) fn write_nodes<R: Rack>(&self, rack: &mut R) -> Result<(), Refusal>
         requires { For self.now Finished 0 (R.view rack.old) }
-        ensures rows { MatchResult result (λ _. For self.now Finished (length (tree_nodes self.now)) (R.view rack.new)) (λ _. For self.now MoreRows (R.view rack.new).room) }
+        ensures rows { EndsWith self.now (For self.now Finished (length (tree_nodes self.now))) (R.view rack.new) result }
         ensures memory { SameMemory (R.view rack.old) (R.view rack.new) }
     {
         for m in 0..self.nodes().len() {

@@ -1,8 +1,8 @@
 // All rows of a tree in a rack.
-ghost use Rattle.std.specs.Prelude.{◌≡◌, MatchResult};
-ghost use Rattle.row_laws.specs.Rows.{MoreRows, PlayableCount, key_limit};
+ghost use Rattle.std.specs.Prelude.{◌≡◌, IfOk};
+ghost use Rattle.row_laws.specs.Rows.{PlayableCount, key_limit};
 ghost use Rattle.trees.specs.Outcome.{Outcome};
-ghost use Rattle.trees.specs.Planting.{SameMemory, Finished, Complete};
+ghost use Rattle.trees.specs.Planting.{EndsWith, SameMemory, Finished, Complete};
 ghost use Rattle.trees.specs.Trees.{For, tree_nodes};
 
 use crate::tree::Tree;
@@ -13,7 +13,8 @@ impl Tree {
     // Puts all rows into an empty rack. The answer is by how many keys the windows' rows are more than the nodes'.
     fn put_rows<R: Rack>(&self, rack: &mut R) -> Result<u32, Refusal>
         requires { For self.now Finished 0 (R.view rack.old) }
-        ensures rows { MatchResult result (λ c. For self.now Complete (R.view rack.new) × PlayableCount (tree_nodes self.now) self.now.alphabet.order c) (λ _. For self.now MoreRows (R.view rack.new).room) }
+        ensures rows { EndsWith self.now (For self.now Complete) (R.view rack.new) result }
+        ensures count { IfOk result (λ c. PlayableCount (tree_nodes self.now) self.now.alphabet.order c) }
         ensures memory { SameMemory (R.view rack.old) (R.view rack.new) }
     {
         self.write_nodes(rack)?;

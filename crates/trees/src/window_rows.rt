@@ -1,12 +1,11 @@
 // The rows of the playable windows, by the standings of their moves at the root.
-ghost use Rattle.std.specs.Prelude.{◌≡◌, ◌+◌, ◌*◌, ◌^◌, ◌<◌, ◌≤◌, ◌↔◌, ◌∷◌, length, IsTrue, MatchOption, MatchResult};
+ghost use Rattle.std.specs.Prelude.{◌≡◌, ◌+◌, ◌*◌, ◌^◌, ◌<◌, ◌≤◌, ◌↔◌, ◌∷◌, length, IsTrue, IsSome, IfSome, MatchOption};
 ghost use Rattle.terms.specs.Codes.{base};
 ghost use Rattle.terms.specs.Words.{start_mark};
-ghost use Rattle.row_laws.specs.Rows.{MoreRows};
 ghost use Rattle.row_laws.specs.Windowed.{with_marks, Fits, turn};
 ghost use Rattle.windows.specs.Values.{word_items};
 ghost use Rattle.trees.specs.Marks.{marks_number};
-ghost use Rattle.trees.specs.Planting.{SameMemory, CodeOfMoves, Finished, Windows, NextWindow, Complete};
+ghost use Rattle.trees.specs.Planting.{EndsWith, SameMemory, CodeOfMoves, Finished, Windows, NextWindow, Complete};
 ghost use Rattle.trees.specs.Trees.{For, tree_nodes};
 
 use crate::tree::Tree;
@@ -62,18 +61,18 @@ fn started(items: &[u8]) -> Option<Word>
 
 impl Tree {
     // The window of these moves and marks; nothing where they make none.
-    fn window(&self, moves: &[u8], marks: Marks) -> Option<Word>
-        requires { length moves.now ≤ 5 }
-        ensures { MatchOption result (Fits self.now.alphabet.order (marks_number marks) (length moves.now) → ⊥) (λ w. Fits self.now.alphabet.order (marks_number marks) (length moves.now) × (word_items w ≡ with_marks (marks_number marks) moves.now)) }
+    fn window(&self, moves: Word, marks: Marks) -> Option<Word>
+        ensures fits { IsSome result ↔ Fits self.now.alphabet.order (marks_number marks) (length (word_items moves)) }
+        ensures marked { IfSome result (λ w. word_items w ≡ with_marks (marks_number marks) (word_items moves)) }
     {
-        if !marks.fit(self.alphabet.order(), moves.len()) {
+        if !marks.fit(self.alphabet.order(), moves.items().len()) {
             return None;
         }
         match marks {
-            Marks::Neither => Word::new(moves),
-            Marks::Start => started(moves),
-            Marks::End => Word::new(moves)?.pushed(END_MARK),
-            Marks::Both => started(moves)?.pushed(END_MARK),
+            Marks::Neither => Some(moves),
+            Marks::Start => started(moves.items()),
+            Marks::End => moves.pushed(END_MARK),
+            Marks::Both => started(moves.items())?.pushed(END_MARK),
         }
     }
 
@@ -81,13 +80,12 @@ impl Tree {
     fn put_window<R: Rack>(
         &self,
         rack: &mut R,
-        word: &[u8],
+        word: Word,
         standing: u32,
         marks: Marks,
     ) -> Result<(), Refusal>
-        requires short { length word.now ≤ 5 }
-        requires next { For self.now NextWindow word.now standing (marks_number marks) (R.view rack.old) }
-        ensures rows { MatchResult result (λ _. For self.now Windows (turn self.now.alphabet.moves (marks_number marks) word.now + 1) (R.view rack.new)) (λ _. For self.now MoreRows (R.view rack.new).room) }
+        requires { For self.now NextWindow (word_items word) standing (marks_number marks) (R.view rack.old) }
+        ensures rows { EndsWith self.now (For self.now Windows (turn self.now.alphabet.moves (marks_number marks) (word_items word) + 1)) (R.view rack.new) result }
         ensures memory { SameMemory (R.view rack.old) (R.view rack.new) }
     {
         if standing & marks.bit() == 0 {
@@ -112,13 +110,13 @@ impl Tree {
     fn windows_around<R: Rack>(&self, rack: &mut R, code: u32) -> Result<(), Refusal>
         requires word { CodeOfMoves self.now.alphabet.moves self.now.alphabet.order code }
         requires rows { For self.now Windows (4 * code) (R.view rack.old) }
-        ensures rows { MatchResult result (λ _. For self.now Windows (4 * (code + 1)) (R.view rack.new)) (λ _. For self.now MoreRows (R.view rack.new).room) }
+        ensures rows { EndsWith self.now (For self.now Windows (4 * (code + 1))) (R.view rack.new) result }
         ensures memory { SameMemory (R.view rack.old) (R.view rack.new) }
     {
         let word = self.word(code);
         let standing = rack.read(self.root_start() + code);
         for marks in [Marks::Neither, Marks::Start, Marks::End, Marks::Both] {
-            self.put_window(rack, word.items(), standing, marks)?;
+            self.put_window(rack, word, standing, marks)?;
         }
         Ok(())
     }
@@ -126,7 +124,7 @@ impl Tree {
     // Puts in all windows, by a walk over the root's rows.
     pub(crate) fn put_windows<R: Rack>(&self, rack: &mut R) -> Result<(), Refusal>
         requires { For self.now Finished (length (tree_nodes self.now)) (R.view rack.old) }
-        ensures rows { MatchResult result (λ _. For self.now Complete (R.view rack.new)) (λ _. For self.now MoreRows (R.view rack.new).room) }
+        ensures rows { EndsWith self.now (For self.now Complete) (R.view rack.new) result }
         ensures memory { SameMemory (R.view rack.old) (R.view rack.new) }
     {
         let start = self.root_start();

@@ -20,26 +20,14 @@ const SECOND: RawNode = RawNode {
     b: 0,
 };
 
-// Moves 1 and 2 in parallel, and in a loop.
-const PARALLEL: [RawNode; 3] = [
-    FIRST,
-    SECOND,
-    RawNode {
-        kind: 5,
-        a: 1,
-        b: 2,
-    },
-];
+const LOOP: u16 = 4;
 
-const LOOP: [RawNode; 3] = [
-    FIRST,
-    SECOND,
-    RawNode {
-        kind: 4,
-        a: 1,
-        b: 2,
-    },
-];
+const PARALLEL: u16 = 5;
+
+// Moves 1 and 2 below a node of this kind.
+fn over_both(kind: u16) -> [RawNode; 3] {
+    [FIRST, SECOND, RawNode { kind, a: 1, b: 2 }]
+}
 
 fn planted<R: Rack>(n: u16, k: u16, table: &[RawNode], rack: &mut R) -> Result<u32, Refusal> {
     Tree::new(Alphabet::new(n, k)?, table)?.write_rows(rack)
@@ -50,12 +38,12 @@ fn planted<R: Rack>(n: u16, k: u16, table: &[RawNode], rack: &mut R) -> Result<u
 fn room_for_the_rows(rt: HostRuntime) {
     let mut rows = [NO_ROW; 13];
     let mut rack = ListRack::new(&mut rows);
-    assert_eq!(rt; planted(3, 3, &PARALLEL, &mut rack), Ok(4));
+    assert_eq!(rt; planted(3, 3, &over_both(PARALLEL), &mut rack), Ok(4));
     assert_eq!(rt; rack.held(), 13);
     let mut fewer = [NO_ROW; 12];
     let mut small = ListRack::new(&mut fewer);
     assert_eq!(rt;
-        planted(3, 3, &PARALLEL, &mut small),
+        planted(3, 3, &over_both(PARALLEL), &mut small),
         Err(Refusal::ModelRoom)
     );
     assert_eq!(rt; small.held(), 0);
@@ -66,7 +54,7 @@ fn room_for_the_rows(rt: HostRuntime) {
 fn reach_for_the_keys(rt: HostRuntime) {
     let mut cells = [0; 864];
     let mut rack = TableRack::new(&mut cells);
-    assert_eq!(rt; planted(3, 3, &PARALLEL, &mut rack), Ok(4));
+    assert_eq!(rt; planted(3, 3, &over_both(PARALLEL), &mut rack), Ok(4));
     // +12 is playable, 121 is not.
     assert_eq!(rt; rack.read(152), 1);
     assert_eq!(rt; rack.read(49), 0);
@@ -74,7 +62,7 @@ fn reach_for_the_keys(rt: HostRuntime) {
     let mut small = TableRack::new(&mut fewer);
     assert_eq!(rt; small.write(7, 9), Ok(()));
     assert_eq!(rt;
-        planted(3, 3, &PARALLEL, &mut small),
+        planted(3, 3, &over_both(PARALLEL), &mut small),
         Err(Refusal::ModelReach)
     );
     assert_eq!(rt; small.read(7), 9);
@@ -86,7 +74,7 @@ fn rounds_of_a_loop(rt: HostRuntime) -> Result<(), Fail> {
     let alphabet = Alphabet::new(2, 5)?;
     let mut rows = [NO_ROW; 256];
     let mut rack = ListRack::new(&mut rows);
-    let _ = planted(2, 5, &LOOP, &mut rack);
+    planted(2, 5, &over_both(LOOP), &mut rack)?;
     assert_eq!(rt;
         rack.read(alphabet.code(b"\x01\x02\x01\x02\x01").unwrap_or(0)),
         1

@@ -8,8 +8,6 @@ use Rattle.trees.proofs.tree.Tree.put_windows.Goals as goal
 pub loop-key-init : goal.loop-key-init
 loop-key-init g c =
     let tree = c.args.self.now in
-    let a = tree.alphabet in
-    let t = tree_nodes tree in
     let before = g.R.Rack.view c.args.rack.now in (
       omega arith,
       windows_none (is_tree tree) before c.requires,

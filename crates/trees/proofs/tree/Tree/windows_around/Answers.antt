@@ -30,27 +30,20 @@ loop-marks-init g c =
       record { reach = refl; room = refl; lent = refl },
     )
 
-pub put_window-requires-clause-next : goal.put_window-requires-clause-next
-put_window-requires-clause-next g c =
+pub put_window-requires : goal.put_window-requires
+put_window-requires g c =
     let tree = c.args.self.now in
     let a = tree.alphabet in
-    let view = g.R.Rack.view c.loop-marks.rack in
-    subst (λ i. NextWindow a.moves a.order (tree_nodes tree) c.items.result.now c.read-standing.result i view) (sym (marks_at c.loop-marks.marks-index _ c.loop-marks-test.true))
-    (subst (λ u. NextWindow a.moves a.order (tree_nodes tree) u c.read-standing.result c.loop-marks.marks-index view) (sym c.items.ensures) c.loop-marks.invariant.0)
+    subst (λ i. NextWindow a.moves a.order (tree_nodes tree) (word_items c.word-word.result) c.read-standing.result i (g.R.Rack.view c.loop-marks.rack)) (sym (marks_at c.loop-marks.marks-index _ c.loop-marks-test.true)) c.loop-marks.invariant.0
 
 pub loop-marks-preserved : goal.loop-marks-preserved
 loop-marks-preserved g c =
     let tree = c.args.self.now in
     let a = tree.alphabet in
-    let t = tree_nodes tree in
-    let view = g.R.Rack.view c.put_window.new.rack in
-    let put : Windows a.moves a.order t (turn a.moves c.loop-marks.marks-index (word_items c.word-word.result) + 1) view =
-    subst (λ u. Windows a.moves a.order t (turn a.moves c.loop-marks.marks-index u + 1) view) c.items.ensures
-    (subst (λ i. Windows a.moves a.order t (turn a.moves i c.items.result.now + 1) view) (marks_at c.loop-marks.marks-index _ c.loop-marks-test.true) c.in_ok-put_window.ensures.rows) in
+    let put = subst (λ i. Windows a.moves a.order (tree_nodes tree) (turn a.moves i (word_items c.word-word.result) + 1) (g.R.Rack.view c.put_window.new.rack)) (marks_at c.loop-marks.marks-index _ c.loop-marks-test.true) c.in_ok-put_window.ensures.rows in
     (next_window (is_tree tree) _ _ c.loop-marks.marks-index _ _ c.loop-marks.invariant.0 put, search rules)
 
 pub returns-clause-rows : goal.returns-clause-rows
 returns-clause-rows g c =
     let tree = c.args.self.now in
-    let a = tree.alphabet in
     all_marks (is_tree tree) c.args.code _ _ c.loop-marks.marks-index _ c.word-word.ensures.code (omega (arith, c.loop-marks-test.false, c.loop-marks.auto)) c.loop-marks.invariant.0

@@ -21,8 +21,8 @@ returns g c =
     let whole = c.in-Ok.ensures.rows in
     record {
       reaches = omega (arith, c.if-reach-key_limit.false, c.reach.ensures.answer, c.key_limit.ensures);
-      fits = λ more. rows_fit n k t a.few a.low (is_tree tree).formed whole.0.rows after.reach (g.met.R.Rack.bounded c.put_rows.new.rack).within_room whole.0.reaches (subst (MoreRows n k t) (sym same.room) more);
-      rows = whole.0.rows;
-      playable = whole.1;
+      fits = λ more. rows_fit n k t a.few a.low (is_tree tree).formed whole.rows after.reach (g.met.R.Rack.bounded c.put_rows.new.rack).within_room whole.reaches (subst (MoreRows n k t) (sym same.room) more);
+      rows = whole.rows;
+      playable = c.in-Ok.ensures.count;
       same_memory = record { reach = same.reach; room = same.room; lent = same.lent };
     }
