@@ -5,10 +5,12 @@ use Rattle.std.proofs.Math.Nat.{pow-suc, pow-zero, mul-div_cancel}
 use Rattle.std.proofs.lemmas.Bool.{cases_lt, true≢false}
 use Rattle.std.proofs.lemmas.List.{length_push, take_all}
 use Rattle.std.proofs.lemmas.List.Elements.{All-nil, All-push, All-tail}
+use Rattle.terms.proofs.Ends.{from_the_end, all_before_last}
 use Rattle.terms.proofs.Codes.{code_apart, code_longer}
 use Rattle.terms.specs.Codes.{Word, base, code}
 use Rattle.terms.specs.Words.{Move, Moves}
 use Rattle.terms.specs.declared.Refusal.{Refusal}
+use Rattle.tree_laws.specs.Children.{first_child, second_child}
 use Rattle.tree_laws.specs.Facts.{Standing}
 use Rattle.tree_laws.specs.Routes.{IsNode, Proper}
 use Rattle.tree_laws.specs.Standings.{Children, Known}
@@ -16,12 +18,12 @@ use Rattle.tree_laws.specs.declared.Node.{Node}
 use Rattle.tree_laws.specs.declared.Node.TheVariants.{Skip, Move as Single, Choice, Sequence, Loop, Parallel}
 use Rattle.tree_laws.proofs.Computed.{computed_laws_lem}
 use Rattle.racks.specs.Views.{View, LacksRoom, NoneBetween, Smallest, after_write, held_count, held_in, written}
-use Rattle.standings.specs.Rows.{RowRead, rows_of, first_child, second_child, standing_by}
+use Rattle.standings.specs.Rows.{RowRead, rows_of, standing_by}
 use Rattle.row_laws.specs.Progress.{InProgress, NodeKey, Standings}
 use Rattle.row_laws.specs.Rows.{HasRow, MoreRows, PlayableCount, row_key}
 use Rattle.row_laws.proofs.Counted.{more_rows, count_playable}
 use Rattle.row_laws.proofs.Increase.{count_increase}
-use Rattle.row_laws.proofs.Progress.{Parted, none, behind, parted, progress_none, progress_ends, progress_skip, progress_write, progress_pass, progress_rows, progress_tried, contained_from_held, stands_by_tail}
+use Rattle.row_laws.proofs.Progress.{progress_none, progress_ends, progress_skip, progress_write, progress_pass, progress_rows, progress_tried, contained_from_held, stands_by_tail}
 use Rattle.row_laws.proofs.Keys.{code_of_moves, code_of_push, items_from_moves, word_from_moves}
 use Rattle.trees.proofs.Trees.{IsTree}
 use Rattle.trees.specs.Planting.{CodeOfMoves, Complete, Finished, Underway, NextWord}
@@ -40,16 +42,17 @@ written_or_more n k t After key s before after reached free row rows holds (Err 
     refused room_left = absurd (true≢false (sym (accepted reached room_left)))
 
 module _ {n k : ℕ} {t : List Node} (tree : IsTree n k t) where
-  code_low_next : (j : ℕ) → ((v : List ℕ) → Moves n v → j < length v → base n ^ j ≤ code n v) → (u : List ℕ) → suc j < length u → Parted n k tree.few u → base n ^ suc j ≤ code n u
-  code_low_next j below u long (none is) = absurd (omega (arith, ap length is))
-  code_low_next j below u long (behind v x is moves move code_is longer) =
-      omega (arith, pow-suc (base n) j, code_is, mul-le-mul_right (base n) (below v moves (omega (arith, longer))))
-
   -- a word of more than j moves has no code below the power of j
   code_low : (j : ℕ) (u : List ℕ) → Moves n u → j < length u → base n ^ j ≤ code n u
   code_low zero [] moves long = absurd (omega arith)
   code_low zero (x ∷ u) moves long = omega (arith, pow-zero (base n), code_longer n tree.few [] (x ∷ u) (items_from_moves n [] (All-nil (Move n))) (items_from_moves n (x ∷ u) moves) (omega arith))
-  code_low (suc j) u moves long = code_low_next j (code_low j) u long (parted n k tree.few u moves)
+  code_low (suc j) u moves long =
+      ⊎_elim
+      (λ empty. absurd (omega (arith, ap length empty)))
+      (λ (v, x, is).
+      let parts = all_before_last (Move n) v x (subst (Moves n) is moves) in
+      omega (arith, pow-suc (base n) j, ap (code n) is ∙ code_of_push n k tree.few v x parts.1, mul-le-mul_right (base n) (code_low j v parts.0 (omega (arith, ap length is ∙ length_push v x)))))
+      (from_the_end u)
 
   -- the keys of a node's rows tell the codes of their words
   pub code_of_row : (m v c : ℕ) → NodeKey n k m (v * base n ^ k + c) → c < base n ^ k → CodeOfMoves n k c
