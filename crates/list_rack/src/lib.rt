@@ -1,7 +1,7 @@
 // A rack over a lent slice of rows, of which the first are held, ascending by key.
 #![tactic(auto)]
 
-ghost use Rattle.std.specs.Prelude.{◌≡◌, ◌-◌, ◌<◌, [], ◌∷◌, ◌++◌, length, take, slice_index_or};
+ghost use Rattle.std.specs.Prelude.{◌≡◌, ◌-◌, ◌<◌, [], ◌∷◌, ◌++◌, length, take, slice_index_or, Some, slice_get, slice_set};
 ghost use Rattle.std.specs.List.{insert, remove};
 ghost use Rattle.racks.specs.Views.{held_count, places_used};
 ghost use Rattle.list_rack.specs.Rows.{Holds, Placed, row_key, no_row, number_in, list_reach, list_view, list_bounded, new_list};
@@ -54,6 +54,14 @@ impl<'a> ListRack<'a> {
         find(&self.rows[..len], u64::from(key))
     }
 
+    // The held row at the place.
+    fn row(&self, place: usize) -> Row
+        requires { place < self.now.len }
+        ensures { slice_get self.now.rows.now place ≡ Some result }
+    {
+        row_at(self.rows, place)
+    }
+
     // How many rows are held, which is how many keys are.
     fn held_rows(&self) -> u32
         ensures counted { result ≡ held_count (number_in (take self.now.len self.now.rows.now)) list_reach }
@@ -68,6 +76,22 @@ impl<'a> ListRack<'a> {
     {
         self.rows.len().min(MOST_PLACES) as u32
     }
+}
+
+// The row at the place.
+fn row_at(rows: &[Row], place: usize) -> Row
+    requires { place < length rows.now }
+    ensures { slice_get rows.now place ≡ Some result }
+{
+    rows[place]
+}
+
+// Puts the row in the place of the one that stands there.
+fn replace(rows: &mut [Row], place: usize, row: Row)
+    requires { place < length rows.old }
+    ensures { rows.new ≡ slice_set rows.old place row }
+{
+    rows[place] = row;
 }
 
 // Puts the row in at the place, and moves those from there on one place up; the last one is lost.
@@ -106,7 +130,7 @@ impl Rack for ListRack<'_> {
 
     fn read(&mut self, key: u32) -> u32 {
         match self.place(key) {
-            Ok(place) => self.rows[place].number,
+            Ok(place) => self.row(place).number,
             Err(_) => 0,
         }
     }
@@ -114,7 +138,7 @@ impl Rack for ListRack<'_> {
     fn next(&mut self, from: u32) -> Option<u32> {
         let (Ok(place) | Err(place)) = self.place(from);
         if place < self.len as usize {
-            Some(self.rows[place].key)
+            Some(self.row(place).key)
         } else {
             None
         }
@@ -130,7 +154,7 @@ impl Rack for ListRack<'_> {
                 remove(&mut self.rows[..self.len as usize], place);
                 self.len -= 1;
             }
-            Ok(place) => self.rows[place] = row,
+            Ok(place) => replace(self.rows, place, row),
             Err(place) if number != 0 => {
                 if self.held_rows() == self.places() {
                     return Err(Refusal::NoRoom);

@@ -1,7 +1,7 @@
 -- The list of windows is what the law of cutting says, and has exactly the windows of the relation.
 use Rattle.std.proofs.Common.{◌≡◌, ℕ, ◌+◌, ◌-◌, ◌<◌, ◌≤◌, List, [], ◌∷◌, ◌++◌, length, get_or, take, drop, Contains, sym, refl, ap, ◌∙◌, subst, inl, inr, ⊎_elim, arith, length-append, length-drop, take-append-drop}
 use Rattle.std.proofs.lemmas.List.FromFn.{length-map-range_with_len, get_or-map-range_with_len}
-use Rattle.std.proofs.lemmas.List.{length-take-le, take_at, drop_at, get_or_default}
+use Rattle.std.proofs.lemmas.List.{same_lists, length-take-le, take_at, drop_at, get_or_default}
 use Rattle.std.proofs.lemmas.Bool.{le-leb, lt-leb, cases_lt}
 use Rattle.terms.specs.Words.{RunAt, Cuts, run, runs, windows, WindowOf}
 
@@ -44,6 +44,17 @@ cuts_windows k w = record {
 
 pub cuts_from_windows : (k : ℕ) (w : List ℕ) (ws : List (List ℕ)) → ws ≡ windows k w → Cuts k w ws
 cuts_from_windows k w ws e = subst (Cuts k w) (sym e) (cuts_windows k w)
+
+-- and of no other list
+pub windows_from_cuts : (k : ℕ) (w : List ℕ) (ws : List (List ℕ)) → Cuts k w ws → ws ≡ windows k w
+windows_from_cuts k w ws c =
+    ⊎_elim
+    (λ long.
+    let many : length ws ≡ length w + 1 - k = c.places long ∙ omega arith in
+    same_lists ws (windows k w) (many ∙ sym (ap length (windows_long k w long) ∙ length_runs k w))
+    (λ p d l. get_or_default ws p d [] l ∙ run_is (c.runs long p l) ∙ sym (ap (λ vs. get_or vs p d) (windows_long k w long) ∙ getD_runs k w p d (omega arith))))
+    (λ short. c.short short ∙ sym (windows_short k w short))
+    (cases_lt k (length w))
 
 -- a window of the list stands at some place, and what stands at a place is a window
 pub window_has : (k : ℕ) (w u : List ℕ) → WindowOf k w u → Contains (windows k w) u

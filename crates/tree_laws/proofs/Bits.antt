@@ -1,5 +1,5 @@
 -- The bits of a number as tests, and what they are of joined and shifted numbers.
-use Rattle.std.proofs.Common.{◌≡◌, ℕ, zero, suc, ◌+◌, ◌*◌, ◌/◌, ◌%◌, ◌^◌, ◌<◌, Bool, true, false, cond, not, ◌&&◌, ◌||◌, eqb, Decides, sym, refl, ap, ◌∙◌, subst, inl, inr, ⊎_elim, one-mul, zero-mul, add-one, arith}
+use Rattle.std.proofs.Common.{◌≡◌, ℕ, zero, suc, ◌+◌, ◌*◌, ◌/◌, ◌%◌, ◌^◌, ◌<◌, Bool, true, false, cond, not, ◌&&◌, ◌||◌, eqb, Decides, sym, ap, ◌∙◌, subst, inl, inr, ⊎_elim, one-mul, zero-mul, add-one, arith}
 use lib.Bits.{bit_and, bit_or, or_lt}
 use Rattle.std.specs.Int.{bit_at}
 use Rattle.std.proofs.lemmas.Nat.{shr-shr, pow_pos}
@@ -52,7 +52,3 @@ ors_below F k (suc n) each = or_lt k (ors F n) (F n) (ors_below F k n (λ j h. e
 -- the step of a loop that takes them together
 pub ors_more : (F : ℕ → ℕ) (i s x : ℕ) → s ≡ ors F i → x ≡ F i → bit_or s x ≡ ors F (i + 1)
 ors_more F i s x e h = (λ k. bit_or (e k) (h k)) ∙ ap (ors F) (sym (add-one i))
-
-pub ors_same : (F G : ℕ → ℕ) (n : ℕ) → ((j : ℕ) → j < n → F j ≡ G j) → ors F n ≡ ors G n
-ors_same F G zero each = refl
-ors_same F G (suc n) each = (λ i. bit_or (ors_same F G n (λ j h. each j (omega arith)) i) (each n (omega arith) i))

@@ -10,6 +10,5 @@ pub mod Standings
 pub mod LoopStandings
 pub mod Computed
 pub mod Rows
-pub mod Arrays
 pub mod Checked
 pub mod Children

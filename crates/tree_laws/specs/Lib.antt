@@ -1,6 +1,7 @@
 pub mod Routes
 pub mod Checked
 pub mod Children
+pub mod Shown
 pub mod Facts
 pub mod Boundaries
 pub mod Selections

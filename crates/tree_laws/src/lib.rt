@@ -4,6 +4,8 @@
 ghost use Rattle.tree_laws.specs.Laws.{ChoiceLaws, SequenceLaws, LoopLaws, ParallelLaws, NodeLaws, WindowLaws};
 ghost use Rattle.tree_laws.specs.Standings.{ComputedLaws, StandingLaws};
 
+use std::fmt;
+
 // A node of a table. Children are node numbers, counted from 1.
 #[derive(Clone, Copy, PartialEq, Eq, Debug, Default)]
 pub enum Node {
@@ -20,6 +22,24 @@ pub enum Node {
     Loop(u8, u8),
     // Every interleaving of a route of the first child with one of the second.
     Parallel(u8, u8),
+}
+
+impl fmt::Display for Node {
+    ghost use Rattle.std.specs.Prelude.{Some};
+    ghost use Rattle.tree_laws.specs.Shown.{text};
+
+    ghost output = { λ node. Some (text node) };
+
+    fn fmt<W: fmt::Write>(&self, f: &mut fmt::Formatter<W>) -> fmt::Result {
+        match self {
+            Node::Skip => write!(f, "skip"),
+            Node::Move(m) => write!(f, "move {m}"),
+            Node::Choice(a, b) => write!(f, "choice of {a} and {b}"),
+            Node::Sequence(a, b) => write!(f, "{a}, then {b}"),
+            Node::Loop(a, b) => write!(f, "loop of {a} and {b}"),
+            Node::Parallel(a, b) => write!(f, "{a} and {b} in parallel"),
+        }
+    }
 }
 
 // The functions below compute nothing: each contract is a law, which the check has proved.

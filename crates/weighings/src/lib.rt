@@ -1,9 +1,9 @@
 // Weighings: what a window weighs.
 #![tactic(auto)]
 
-ghost use Rattle.std.specs.Prelude.{◌≡◌, ℕ, max, List, IfSome, if◌then◌else◌, MatchOption};
+ghost use Rattle.std.specs.Prelude.{◌≡◌, ℕ, List, IfSome, MatchOption};
 ghost use Rattle.terms.specs.Words.{Move};
-ghost use Rattle.weighings.specs.Weights.{InRange, move_weight, is_move, dearest, IsDearest};
+ghost use Rattle.weighings.specs.Weights.{InRange, move_weight, dearest, IsDearest};
 ghost use Rattle.either.specs.Either.{either};
 ghost use Rattle.weighings.specs.Moves.{dearest_in_range, one_in_range};
 ghost use Rattle.either.specs.declared.Either.TheVariants.{Left, Right};

@@ -16,12 +16,12 @@ returns-in-Ok-clause-after c =
 pub invariant_of-self-in-Ok-2 : goal.invariant_of-self-in-Ok-2
 invariant_of-self-in-Ok-2 c =
     let s = c.args.self.now in
-    record { holds = (edited_set s.rows.now s.len c.in-Ok.place s.holds (record { key = c.args.key; number = c.args.number }) c.in-Ok.ensures.place (search rules)).holds }
+    record { holds = rw c.replace.ensures (edited_set s.rows.now s.len c.in-Ok.place s.holds (record { key = c.args.key; number = c.args.number }) c.in-Ok.ensures.place (search rules)).holds }
 
 pub returns-in-Ok-2-clause-after : goal.returns-in-Ok-2-clause-after
 returns-in-Ok-2-clause-after c =
     let s = c.args.self.now in
-    (edited_set s.rows.now s.len c.in-Ok.place s.holds (record { key = c.args.key; number = c.args.number }) c.in-Ok.ensures.place (search rules)).view s.rows.ghost_name
+    rw c.replace.ensures ((edited_set s.rows.now s.len c.in-Ok.place s.holds (record { key = c.args.key; number = c.args.number }) c.in-Ok.ensures.place (search rules)).view s.rows.ghost_name)
 
 pub invariant_of-self-then-number-ne0 : goal.invariant_of-self-then-number-ne0
 invariant_of-self-then-number-ne0 c =
