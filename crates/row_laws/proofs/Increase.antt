@@ -1,5 +1,5 @@
 -- By how many keys the rows of the windows are more than those of the nodes.
-use Rattle.std.proofs.Common.{◌≡◌, ℕ, zero, suc, ◌+◌, ◌-◌, ◌^◌, ◌<◌, ◌≤◌, List, length, sym, ap, ◌∙◌, subst, inl, inr, ⊎_elim, add-zero, add-suc, arith}
+use Rattle.std.proofs.Common.{◌≡◌, ℕ, zero, suc, ◌+◌, ◌-◌, ◌^◌, ◌<◌, ◌≤◌, List, length, sym, ap, ◌∙◌, inl, inr, ⊎_elim, add-zero, add-suc, arith}
 use Rattle.std.proofs.lemmas.Bool.{cases_lt}
 use Rattle.terms.specs.Codes.{base}
 use Rattle.terms.proofs.Codes.{code_below}
@@ -13,10 +13,6 @@ use Rattle.row_laws.specs.Progress.{NodeKey, Upto}
 use Rattle.row_laws.specs.Rows.{HasRow, RowsAt, row_key}
 use Rattle.row_laws.proofs.WithMarks.{window_word}
 use Rattle.row_laws.proofs.Windowed.{node_key_high}
-
--- only the numbers at keys matter
-pub rows_same : (n k : ℕ) (t : List Node) {f g : ℕ → ℕ} → ((key : ℕ) → g key ≡ f key) → RowsAt n k t f → RowsAt n k t g
-rows_same n k t same = subst (RowsAt n k t) (λ i key. sym (same key) i)
 
 held_count_split : (f : ℕ → ℕ) (a b : ℕ) → held_count f (a + b) ≡ held_count f a + held_count (λ i. f (a + i)) b
 unfolding held_count

@@ -1,5 +1,5 @@
 -- One row more, words that no route contains, and the end of a node: what is kept while rows are put in.
-use Rattle.std.proofs.Common.{◌≡◌, ℕ, ◌+◌, ◌*◌, ◌^◌, ◌<◌, ◌≤◌, List, [], ◌∷◌, ◌++◌, length, sym, refl, ap, ◌∙◌, subst, ⊎_elim, mul-le-mul_right, add-mul, mul-le-mul_left, arith}
+use Rattle.std.proofs.Common.{◌≡◌, ℕ, ◌+◌, ◌*◌, ◌^◌, ◌<◌, ◌≤◌, List, [], ◌∷◌, ◌++◌, length, sym, refl, ap, ◌∙◌, subst, ⊎_elim, mul-le-mul_right, add-mul, arith}
 use Rattle.std.proofs.lemmas.List.{length_push}
 use Rattle.std.proofs.lemmas.List.Elements.{All-tail}
 use Rattle.std.proofs.lemmas.Bool.{cases_Bool, cases_eq, cases_lt}
@@ -23,15 +23,8 @@ use Rattle.row_laws.proofs.Keys.{items_from_moves, code_of_moves, code_of_push, 
 
 module _ (n k : ℕ) (few : n ≤ 12) (t : List Node) where
   -- only the numbers at keys matter
-  pub upto_same : (m : ℕ) (f g : ℕ → ℕ) → ((key : ℕ) → g key ≡ f key) → Upto n k t m f → Upto n k t m g
-  upto_same m f g same = subst (Upto n k t m) (λ i key. sym (same key) i)
-
   pub progress_same : (m d : ℕ) (f g : ℕ → ℕ) → ((key : ℕ) → g key ≡ f key) → InProgress n k t m d f → InProgress n k t m d g
   progress_same m d f g same = subst (InProgress n k t m d) (λ i key. sym (same key) i)
-
-  -- an empty rack has the rows of no node
-  pub upto_none : (f : ℕ → ℕ) → ((key : ℕ) → f key ≡ 0) → Upto n k t 0 f
-  upto_none f none = record { standings = λ v u low high moves short. absurd (omega arith); only = λ key held. absurd (omega (arith, none key)) }
 
   wider : (m key : ℕ) → NodeKey n k m key → NodeKey n k (m + 1) key
   wider m key h = record { node = h.node; word = h.word; from_one = h.from_one; inside = omega (arith, h.inside); moves = h.moves; short = h.short; key_is = h.key_is }
@@ -122,7 +115,6 @@ module _ (n k : ℕ) (few : n ≤ 12) where
     last : move ≤ n
     parent_is : code n parent ≡ c
     code_is : code n u ≡ c * base n + move
-    long : length u ≡ length parent + 1
 
   child_of : (c : ℕ) (u : List ℕ) → Moves n u → c * base n + 1 ≤ code n u → code n u < (c + 1) * base n + 1 → Child c u
   child_of c u moves low high =
@@ -135,7 +127,7 @@ module _ (n k : ℕ) (few : n ≤ 12) where
       (λ less. absurd (omega (arith, below_multiple c (code n v) x parts.1.1 less)))
       (λ more. ⊎_elim (λ e. e) (λ other. absurd (omega (arith, above_multiple (c + 1) (code n v) x (omega arith), parts.1.0))) (cases_eq (code n v) c))
       (cases_lt (code n v) c) in
-      record { parent = v; move = x; moves = parts.0; last = parts.1.1; parent_is = same; code_is = whole ∙ ap (λ p. p * base n + x) same; long = ap length is ∙ length_push v x })
+      record { parent = v; move = x; moves = parts.0; last = parts.1.1; parent_is = same; code_is = whole ∙ ap (λ p. p * base n + x) same })
       (from_the_end u)
 
   module _ (t : List Node) (wf : WellFormed n t) (m : ℕ) (inside : m + 1 ≤ length t) where
@@ -174,20 +166,9 @@ module _ (n k : ℕ) (few : n ≤ 12) where
         progress_gap n k few t m (c * base n + n + 1) ((c + 1) * base n + 1) f (omega (arith, add-mul c 1 (base n)))
         (λ u moves short low high. let p = child_of c u moves (omega arith) high in omega (arith, p.last, p.code_is)) h
 
-    -- no word of at most k moves stands behind a word of k moves
-    pub progress_full : (p : List ℕ) (f : ℕ → ℕ) → Moves n p → k ≤ length p → InProgress n k t m (code n p * base n + 1) f → InProgress n k t m ((code n p + 1) * base n + 1) f
-    progress_full p f mp full h =
-        progress_gap n k few t m (code n p * base n + 1) ((code n p + 1) * base n + 1) f (omega (arith, add-mul (code n p) 1 (base n)))
-        (λ u moves short low high. let b = child_of (code n p) u moves low high in omega (arith, b.long, ap length (same_word n k few b.parent p b.moves mp b.parent_is))) h
-
     -- all codes lie below the limit
     pub progress_ends : (c : ℕ) (f : ℕ → ℕ) → base n ^ k ≤ c * base n → InProgress n k t m (c * base n + 1) f → Upto n k t (m + 1) f
     progress_ends c f past h = progress_all n k few t m (c * base n + 1) f (λ u moves short. omega (arith, code_of_moves n k few u moves short)) h
-
-    -- nothing is held from the code c on
-    pub progress_exhausted : (c : ℕ) (f : ℕ → ℕ) → c ≤ base n ^ k → ((u : List ℕ) → Moves n u → length u ≤ k → c ≤ code n u → f (row_key n k (m + 1) u) ≡ 0) → InProgress n k t m (c * base n + 1) f → Upto n k t (m + 1) f
-    progress_exhausted c f le free h =
-        progress_ends (base n ^ k) f (omega (arith, mul-le-mul_left {m = 1} {n = base n} (base n ^ k) (omega arith))) (progress_skip c (base n ^ k) f le (λ u moves short low high. free u moves short low) h)
 
     module _ (d : ℕ) (f : ℕ → ℕ) (h : InProgress n k t m d f) where
       -- a word whose tail is not held is contained in no route

@@ -50,9 +50,6 @@ module _ (n k : ℕ) (t : List Node) (few : n ≤ 12) (wide : 2 ≤ k) (wf : Wel
       no_row : (i : ℕ) (u : List ℕ) → Moves n u → Fits k i (length u) → f (code n (with_marks i u)) ≡ 0
       no_row i u moves fits = omega (arith, not_held i u moves fits)
 
-  pub windowed_same : {d : ℕ} {f g : ℕ → ℕ} → ((key : ℕ) → g key ≡ f key) → Windowed n k t d f → Windowed n k t d g
-  windowed_same {d} same = subst (Windowed n k t d) (λ i key. sym (same key) i)
-
   module _ {d : ℕ} {f : ℕ → ℕ} (h : Windowed n k t d f) (i : ℕ) (u : List ℕ) (four : i < 4) (moves : Moves n u) (here : d ≡ turn n i u) where
     -- before its turn a window has no row
     pub windowed_before : Fits k i (length u) → (code n (with_marks i u) < base n ^ k) × (f (code n (with_marks i u)) ≡ 0)
