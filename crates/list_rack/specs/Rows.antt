@@ -91,10 +91,11 @@ number_absent (row ∷ rows) k none =
     written_other (number_in rows) row.key row.number k (λ e. All-head (λ r. r.key ≢ k) row rows none (sym e))
     ∙ number_absent rows k (All-tail (λ r. r.key ≢ k) row rows none)
 
-pub number_in_fits : (rows : List Row) (k : ℕ) → All CanHold rows → number_in rows k < 2 ^ 32
+pub number_in_fits : (rows : List Row) (k : ℕ) → All (λ row. row.number < 2 ^ 32) rows → number_in rows k < 2 ^ 32
 number_in_fits [] k fits = omega arith
 number_in_fits (row ∷ rows) k fits =
-    grind (arith, common_steps, All-head CanHold row rows fits, number_in_fits rows k (All-tail CanHold row rows fits))
+    let first : row.number < 2 ^ 32 = All-head (λ r. r.number < 2 ^ 32) row rows fits in
+    grind (arith, common_steps, first, number_in_fits rows k (All-tail (λ r. r.number < 2 ^ 32) row rows fits))
 
 pub count_in_most : (rows : List Row) (n : ℕ) → held_count (number_in rows) n ≤ length rows
 count_in_most [] n = omega (arith, held_count_none (number_in []) n (λ k h. refl))
@@ -105,7 +106,7 @@ list_bounded name rows n holds =
     record {
       reach_fits = omega arith;
       room_fits = omega arith;
-      number_fits = λ k. number_in_fits (take n rows) k holds.each;
+      number_fits = λ k. number_in_fits (take n rows) k (λ i d l. (holds.each i d l).number_fits);
       below_reach = λ k h. number_absent (take n rows) k (λ i d l e. omega (arith, (holds.each i d l).key_fits));
       within_room = omega (arith, holds.within, count_in_most (take n rows) list_reach, length-take n rows);
     }
