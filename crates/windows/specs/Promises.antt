@@ -1,5 +1,5 @@
 -- What opening an alphabet and reading a play answer, and when they refuse.
-use Rattle.std.specs.Prelude.{◌≡◌, ℕ, ◌^◌, ◌<◌, ◌≤◌, ◌⊎◌, List, [], ◌∷◌, length, Result, MatchResult}
+use Rattle.std.specs.Prelude.{◌≡◌, ℕ, ◌^◌, ◌<◌, ◌≤◌, ◌⊎◌, List, [], ◌∷◌, length, Result, MatchResult, ◌≢◌}
 use Rattle.terms.specs.Codes.{Word, base, code}
 use Rattle.terms.specs.Refusals.{Says}
 use Rattle.terms.specs.Words.{Allowed, FirstWrong, Moves, most_moves}
@@ -27,3 +27,11 @@ pub record Coded (n k : ℕ) (u : List ℕ) (c : ℕ) : Type 0 where
   pub below : c < base n ^ k
   pub apart : (v : List ℕ) → Word n k v → code n v ≡ c → v ≡ u
   pub longer : (v : List ℕ) → Word n k v → length u < length v → c < code n v
+
+-- no word has the code c
+abbrev pub NoWordWith : ℕ → ℕ → ℕ → Type 0
+NoWordWith n k c = (u : List ℕ) → Word n k u → code n u ≢ c
+
+-- u is the word with the code c
+abbrev pub WordWith : ℕ → ℕ → ℕ → List ℕ → Type 0
+WordWith n k c u = Word n k u × (code n u ≡ c)

@@ -1,7 +1,7 @@
 // The digits of items, the codes of words, and the way back.
-ghost use Rattle.std.specs.Prelude.{◌≡◌, ℕ, ◌^◌, ◌<◌, ◌≤◌, List, MatchOption, ◌≢◌};
-ghost use Rattle.terms.specs.Codes.{Item, Word as IsWord, base as the_base, digit as the_digit, item as the_item, code as the_code};
-ghost use Rattle.windows.specs.Promises.{Coded};
+ghost use Rattle.std.specs.Prelude.{◌≡◌, ◌^◌, ◌<◌, ◌≤◌, MatchOption};
+ghost use Rattle.terms.specs.Codes.{Item, Word as IsWord, base as the_base, digit as the_digit, item as the_item};
+ghost use Rattle.windows.specs.Promises.{Coded, NoWordWith, WordWith};
 ghost use Rattle.windows.specs.Values.{word_items};
 
 use crate::alphabet::Alphabet;
@@ -70,7 +70,7 @@ impl Alphabet {
 
     // The word of at most k items with this code; nothing where no word has it.
     pub fn word(&self, code: u32) -> Option<Word>
-        ensures { MatchOption result ((u : List ℕ) → IsWord self.now.moves self.now.order u → the_code self.now.moves u ≢ code) (λ w. IsWord self.now.moves self.now.order (word_items w) × (the_code self.now.moves (word_items w) ≡ code)) }
+        ensures { MatchOption result (NoWordWith self.now.moves self.now.order code) (λ w. WordWith self.now.moves self.now.order code (word_items w)) }
     {
         if code == 0 {
             return Some(Word::empty());
