@@ -1,4 +1,4 @@
-// The sample level from beginning to end: what the testers played, what the tree allows, and how the two meet.
+// The sample level from beginning to end: what the testers played, what the tree allows, and which of it was played.
 #![tactic(auto)]
 
 use examples::proved_examples;
@@ -40,6 +40,15 @@ fn cut_of(alphabet: &Alphabet, entry: &Entry) -> anyhow::Result<Cut> {
     Ok(alphabet.cut(&play))
 }
 
+fn print_windows(rt: &HostRuntime, alphabet: &Alphabet, cut: &Cut) -> anyhow::Result<()> {
+    for window in cut.windows() {
+        if let Some(code) = alphabet.code(window.items()) {
+            println!(rt; "  {window} code {code}")?;
+        }
+    }
+    Ok(())
+}
+
 fn print_play(
     rt: &HostRuntime,
     alphabet: &Alphabet,
@@ -52,12 +61,7 @@ fn print_play(
         print!(rt; " {m}")?;
     }
     rt.println("")?;
-    for window in cut.windows() {
-        if let Some(code) = alphabet.code(window.items()) {
-            println!(rt; "  {window} code {code}")?;
-        }
-    }
-    Ok(())
+    print_windows(rt, alphabet, cut)
 }
 
 // At how many places the word stands in all these cuts.
@@ -134,26 +138,31 @@ fn run(rt: &HostRuntime) -> anyhow::Result<()> {
     let moves = alphabet.moves();
     let order = alphabet.order();
     println!(rt; "{moves} moves, order {order}")?;
-    let first = Entry {
-        id: 5,
-        moves: &[1, 2],
-    };
-    let second = Entry {
-        id: 6,
-        moves: &[1, 3],
-    };
-    let first_cut = cut_of(&alphabet, &first)?;
-    let second_cut = cut_of(&alphabet, &second)?;
-    print_play(rt, &alphabet, &first, &first_cut)?;
-    print_play(rt, &alphabet, &second, &second_cut)?;
-    let cuts = [first_cut, second_cut];
+    let entries = [
+        Entry {
+            id: 5,
+            moves: &[1, 2],
+        },
+        Entry {
+            id: 6,
+            moves: &[1, 3],
+        },
+    ];
+    let cuts = [
+        cut_of(&alphabet, &entries[0])?,
+        cut_of(&alphabet, &entries[1])?,
+    ];
+    for (entry, cut) in entries.iter().zip(&cuts) {
+        print_play(rt, &alphabet, entry, cut)?;
+    }
     let mut model_rows = [NO_ROW; 4096];
     let mut model = ListRack::new(&mut model_rows);
     print_tree(rt, &alphabet, &mut model)?;
     let mut log_rows = [NO_ROW; 4096];
     let mut log = ListRack::new(&mut log_rows);
-    tally(&alphabet, &mut log, &first_cut, &cuts)?;
-    tally(&alphabet, &mut log, &second_cut, &cuts)?;
+    for cut in &cuts {
+        tally(&alphabet, &mut log, cut, &cuts)?;
+    }
     rt.println("windows played:")?;
     print_played(rt, &alphabet, &mut log, &mut model)?;
     let count = proved_examples();
