@@ -101,12 +101,17 @@ pub count_in_most : (rows : List Row) (n : ℕ) → held_count (number_in rows) 
 count_in_most [] n = omega (arith, held_count_none (number_in []) n (λ k h. refl))
 count_in_most (row ∷ rows) n = omega (arith, held_count_one_more (number_in rows) row.key row.number n, count_in_most rows n)
 
-pub list_bounded : (name : GName) (rows : List Row) (n : ℕ) → Holds rows n → Bounded (list_view name rows n)
-list_bounded name rows n holds =
+-- the bounds hold where the held rows' keys and numbers fit
+pub list_bounds : (name : GName) (rows : List Row) (n : ℕ) → n ≤ places_used (length rows) → All (λ row. row.key < list_reach) (take n rows) → All (λ row. row.number < 2 ^ 32) (take n rows) → Bounded (list_view name rows n)
+list_bounds name rows n within keys numbers =
     record {
       reach_fits = omega arith;
       room_fits = omega arith;
-      number_fits = λ k. number_in_fits (take n rows) k (λ i d l. (holds.each i d l).number_fits);
-      below_reach = λ k h. number_absent (take n rows) k (λ i d l e. omega (arith, (holds.each i d l).key_fits));
-      within_room = omega (arith, holds.within, count_in_most (take n rows) list_reach, length-take n rows);
+      number_fits = λ k. number_in_fits (take n rows) k numbers;
+      below_reach = λ k h. number_absent (take n rows) k (λ i d l e. omega (arith, keys i d l));
+      within_room = omega (arith, within, count_in_most (take n rows) list_reach, length-take n rows);
     }
+
+pub list_bounded : (name : GName) (rows : List Row) (n : ℕ) → Holds rows n → Bounded (list_view name rows n)
+list_bounded name rows n holds =
+    list_bounds name rows n holds.within (λ i d l. (holds.each i d l).key_fits) (λ i d l. (holds.each i d l).number_fits)

@@ -98,20 +98,25 @@ from_weight (x ∷ xs) m has =
     onwards : (y : ℕ) × HasMove xs y × (move_weight y ≡ m) → (y : ℕ) × HasMove (x ∷ xs) y × (move_weight y ≡ m)
     onwards (y, found, is) = (y, (later x y xs found.0, found.1), is)
 
+-- the dearest weight is that of some move, or there is no move and it is 1
+attained : (window : List ℕ) → (((y : ℕ) → HasMove window y → ⊥) × (dearest window ≡ 1)) ⊎ ((y : ℕ) × HasMove window y × (move_weight y ≡ dearest window))
+attained window =
+    elim (largest_or_one (weights window)) [
+      | inl none ↦ inl (λ y has. omega (arith, (has_weight window y has).1, ap length none.0), none.1)
+      | inr most ↦ inr (from_weight window (dearest window) most)
+    ]
+
 pub dearest_in_range : (window : List ℕ) → InRange (dearest window)
 dearest_in_range window =
-    elim (largest_or_one (weights window)) [
+    elim (attained window) [
       | inl none ↦ rw none.1 one_in_range
-      | inr has ↦ let (y, found, is) = from_weight window (dearest window) has in subst InRange is (move_in_range y found.1)
+      | inr some ↦ subst InRange some.2 (move_in_range some.0 some.1.1)
     ]
 
 pub is_dearest : (window : List ℕ) → IsDearest window (dearest window)
 is_dearest window =
     record {
-      without_moves = λ none. elim (largest_or_one (weights window)) [ inl e ↦ e.1 | inr has ↦ let (y, found, is) = from_weight window (dearest window) has in absurd (none y found) ];
-      with_moves = λ x has. elim (largest_or_one (weights window)) [
-        | inl e ↦ absurd (omega (arith, (has_weight window x has).1, ap length e.0))
-        | inr most ↦ from_weight window (dearest window) most
-      ];
+      without_moves = λ none. elim (attained window) [ inl e ↦ e.1 | inr some ↦ absurd (none some.0 some.1) ];
+      with_moves = λ x has. elim (attained window) [ inl e ↦ absurd (e.0 x has) | inr some ↦ some ];
       none_dearer = λ x has. All-contains (λ w. w ≤ dearest window) (weights window) (move_weight x) (none_larger (weights window)) (has_weight window x has);
     }
