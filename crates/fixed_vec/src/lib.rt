@@ -1,20 +1,19 @@
-// A list of at most N items, held in place: what does not fit is left out.
+// Lists in fixed memory.
 #![tactic(auto)]
 
 ghost use Rattle.std.specs.Prelude.{◌≡◌, ◌≤◌, length};
 
 use std::alloc::AllocError;
 
+/// A list of at most N items, held in place: what does not fit is left out.
 // The first `len` of the items are the list, and the others are fillers.
-#[derive(Drop)]
+#[derive(Copy, Drop)]
 pub struct FixedVec<T, const N: usize> {
     items: [T; N],
     len: usize,
     ghost whole: { length items ≡ N },
     ghost short: { len ≤ N },
 }
-
-impl<T: Copy, const N: usize> Copy for FixedVec<T, N> {}
 
 impl<T: Copy, const N: usize> Clone for FixedVec<T, N> {
     ghost use Rattle.std.specs.Prelude.{⊤};
@@ -43,6 +42,7 @@ impl<T: Copy + Default, const N: usize> FixedVec<T, N> {
     ghost use Rattle.std.specs.Prelude.{take, [], ◌∷◌, ◌++◌};
     ghost use Rattle.fixed_vec.specs.Lists.{list_of};
 
+    /// The list without items.
     pub fn new() -> Self
         ensures { list_of result ≡ [] }
     {
@@ -52,7 +52,7 @@ impl<T: Copy + Default, const N: usize> FixedVec<T, N> {
         }
     }
 
-    // The list of the first N of these items.
+    /// The list of the first N of these items.
     pub fn from_slice(items: &[T]) -> Self
         ensures { list_of result ≡ take N items.now }
     {
@@ -61,7 +61,7 @@ impl<T: Copy + Default, const N: usize> FixedVec<T, N> {
         list
     }
 
-    // Adds the item at the end.
+    /// Adds the item at the end.
     pub fn push(&mut self, item: T)
         ensures { list_of self.new ≡ take N (list_of self.old ++ (item ∷ [])) }
     {
@@ -71,6 +71,7 @@ impl<T: Copy + Default, const N: usize> FixedVec<T, N> {
         }
     }
 
+    /// Adds these items at the end, in order.
     pub fn extend_from_slice(&mut self, items: &[T])
         ensures { list_of self.new ≡ take N (list_of self.old ++ items.now) }
     {
@@ -85,6 +86,7 @@ impl<T: Copy + Default, const N: usize> FixedVec<T, N> {
 impl<T, const N: usize> FixedVec<T, N> {
     ghost use Rattle.fixed_vec.specs.Lists.{list_of};
 
+    /// The items, in order.
     pub fn as_slice(&self) -> &[T]
         ensures { result.now ≡ list_of self.now }
     {
