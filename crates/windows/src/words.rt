@@ -1,14 +1,22 @@
-// Making words and reading them.
+// Words: making them and reading them.
 ghost use Rattle.std.specs.Prelude.{◌≡◌, ◌<◌, [], ◌∷◌, ◌++◌, length, take, MatchOption};
 ghost use Rattle.windows.specs.Values.{word_items};
 
 use crate::marks::{END_MARK, START_MARK};
-use crate::values::Word;
 use fixed_vec::FixedVec;
 use std::fmt;
 
+/// A word: at most five items, each a move or a mark. A move is a byte with its number.
+#[derive(Clone, Copy, Default)]
+pub struct Word {
+    items: FixedVec<u8, 5>,
+}
+
+/// A window: a word that some marked list has as a run of k items, or as the whole of it.
+pub type Window = Word;
+
 impl Word {
-    // The word without items.
+    /// The word without items.
     pub fn empty() -> Word
         ensures { word_items result ≡ [] }
     {
@@ -24,7 +32,7 @@ impl Word {
         }
     }
 
-    // The word with these items; nothing where there are more than five.
+    /// The word with these items; nothing where there are more than five.
     pub fn new(items: &[u8]) -> Option<Word>
         ensures { MatchOption result (5 < length items.now) (λ w. word_items w ≡ items.now) }
     {
@@ -34,7 +42,7 @@ impl Word {
         Some(Word::of(items))
     }
 
-    // This word with one item more at its end; nothing where it has five already.
+    /// This word with one item more at its end; nothing where it has five already.
     pub fn pushed(&self, item: u8) -> Option<Word>
         ensures { MatchOption result (length (word_items self.now) ≡ 5) (λ w. word_items w ≡ word_items self.now ++ (item ∷ [])) }
     {
@@ -46,6 +54,7 @@ impl Word {
         Some(word)
     }
 
+    /// The items, in order.
     pub fn items(&self) -> &[u8]
         ensures { result.now ≡ word_items self.now }
     {
@@ -53,7 +62,7 @@ impl Word {
     }
 }
 
-// As a person reads it: `+12`, `12-`. A move above 9 stands in brackets, `+(12)-`.
+/// As a person reads it: `+12`, `12-`. A move above 9 stands in brackets, `+(12)-`.
 impl fmt::Display for Word {
     fn fmt<W: fmt::Write>(&self, f: &mut fmt::Formatter<W>) -> fmt::Result {
         for item in self.items() {

@@ -1,0 +1,34 @@
+// Plays: the moves of one, and its marked list.
+ghost use Rattle.std.specs.Prelude.{◌≡◌};
+ghost use Rattle.terms.specs.Words.{marked};
+ghost use Rattle.fixed_vec.specs.Lists.{list_of};
+ghost use Rattle.windows.specs.Values.{play_moves};
+
+use crate::marks::{END_MARK, START_MARK};
+use fixed_vec::FixedVec;
+
+/// A play: a tester's list of 0 to 32 moves. Process mining calls it a trace.
+#[derive(Clone, Copy)]
+pub struct Play {
+    pub(crate) moves: FixedVec<u8, 32>,
+}
+
+impl Play {
+    /// The moves, in order.
+    pub fn moves(&self) -> &[u8]
+        ensures { result.now ≡ play_moves self.now }
+    {
+        self.moves.as_slice()
+    }
+
+    // The start mark, the moves, the end mark.
+    pub(crate) fn marked(&self) -> FixedVec<u8, 34>
+        ensures { list_of result ≡ marked (play_moves self.now) }
+    {
+        let mut items = FixedVec::new();
+        items.push(START_MARK);
+        items.extend_from_slice(self.moves());
+        items.push(END_MARK);
+        items
+    }
+}
