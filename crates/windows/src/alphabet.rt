@@ -3,7 +3,7 @@ ghost use Rattle.std.specs.Prelude.{◌≡◌, ◌≤◌, ◌↔◌, IsTrue, Mat
 ghost use Rattle.terms.specs.Words.{Moves, FirstWrong, IsWindow};
 
 use crate::marks::{END_MARK, START_MARK};
-use crate::plays::Play;
+use crate::plays::{MOST_MOVES, Play};
 use fixed_vec::FixedVec;
 use terms::Refusal;
 
@@ -76,7 +76,7 @@ impl Alphabet {
     pub fn play(&self, moves: &[u8]) -> Result<Play, Refusal>
         ensures { MatchResult result (PlayRead self.now.moves moves.now) (PlayRefused self.now.moves moves.now) }
     {
-        if moves.len() > 32 {
+        if moves.len() > MOST_MOVES {
             return Err(Refusal::TooManyMoves);
         }
         if let Some(place) = first_wrong(self.moves, moves) {

@@ -5,14 +5,17 @@ ghost use Rattle.terms.specs.Words.{Cuts, WindowOf, marked, runs, windows};
 ghost use Rattle.windows.specs.Values.{word_items, play_moves, cut_windows};
 
 use crate::alphabet::Alphabet;
-use crate::plays::Play;
+use crate::plays::{MOST_MOVES, Play};
 use crate::words::Word;
 use fixed_vec::FixedVec;
+
+// The longest marked list has this many runs of two items.
+const MOST_WINDOWS: usize = MOST_MOVES + 1;
 
 /// The windows of one play, in order, one at each place.
 #[derive(Clone, Copy)]
 pub struct Cut {
-    windows: FixedVec<Word, 33>,
+    windows: FixedVec<Word, MOST_WINDOWS>,
 }
 
 // All runs of `order` items, one at each place.

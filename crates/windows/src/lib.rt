@@ -11,5 +11,5 @@ mod words;
 pub use alphabet::Alphabet;
 pub use cuts::Cut;
 pub use marks::{END_MARK, START_MARK};
-pub use plays::Play;
-pub use words::{Window, Word};
+pub use plays::{MOST_MOVES, Play};
+pub use words::{MOST_ITEMS, Window, Word};

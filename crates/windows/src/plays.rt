@@ -7,10 +7,16 @@ ghost use Rattle.windows.specs.Values.{play_moves};
 use crate::marks::{END_MARK, START_MARK};
 use fixed_vec::FixedVec;
 
-/// A play: a tester's list of 0 to 32 moves. Process mining calls it a trace.
+/// How many moves a play has at most.
+pub const MOST_MOVES: usize = 32;
+
+// The moves and two marks.
+const MOST_MARKED: usize = MOST_MOVES + 2;
+
+/// A play: a tester's list of moves, at most `MOST_MOVES`. Process mining calls it a trace.
 #[derive(Clone, Copy)]
 pub struct Play {
-    pub(crate) moves: FixedVec<u8, 32>,
+    pub(crate) moves: FixedVec<u8, MOST_MOVES>,
 }
 
 impl Play {
@@ -22,7 +28,7 @@ impl Play {
     }
 
     // The start mark, the moves, the end mark.
-    pub(crate) fn marked(&self) -> FixedVec<u8, 34>
+    pub(crate) fn marked(&self) -> FixedVec<u8, MOST_MARKED>
         ensures { list_of result ≡ marked (play_moves self.now) }
     {
         let mut items = FixedVec::new();

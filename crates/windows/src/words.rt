@@ -6,10 +6,13 @@ use crate::marks::{END_MARK, START_MARK};
 use fixed_vec::FixedVec;
 use std::fmt;
 
-/// A word: at most five items, each a move or a mark. A move is a byte with its number.
+/// How many items a word has at most.
+pub const MOST_ITEMS: usize = 5;
+
+/// A word: at most `MOST_ITEMS` items, each a move or a mark. A move is a byte with its number.
 #[derive(Clone, Copy, Default)]
 pub struct Word {
-    items: FixedVec<u8, 5>,
+    items: FixedVec<u8, MOST_ITEMS>,
 }
 
 /// A window: a word that some marked list has as a run of k items, or as the whole of it.
@@ -36,7 +39,7 @@ impl Word {
     pub fn new(items: &[u8]) -> Option<Word>
         ensures { MatchOption result (5 < length items.now) (λ w. word_items w ≡ items.now) }
     {
-        if items.len() > 5 {
+        if items.len() > MOST_ITEMS {
             return None;
         }
         Some(Word::of(items))
@@ -46,7 +49,7 @@ impl Word {
     pub fn pushed(&self, item: u8) -> Option<Word>
         ensures { MatchOption result (length (word_items self.now) ≡ 5) (λ w. word_items w ≡ word_items self.now ++ (item ∷ [])) }
     {
-        if self.items().len() >= 5 {
+        if self.items().len() >= MOST_ITEMS {
             return None;
         }
         let mut word = *self;
