@@ -4,6 +4,7 @@
 ghost use Rattle.std.specs.Prelude.{◌≡◌, ◌≤◌, length};
 
 use std::alloc::AllocError;
+use std::fmt;
 
 /// A list of at most N items, held in place: what does not fit is left out.
 // The first `len` of the items are the list, and the others are fillers.
@@ -24,6 +25,41 @@ impl<T: Copy, const N: usize> Clone for FixedVec<T, N> {
 
     fn clone(&self) -> Result<Self, AllocError> {
         Ok(*self)
+    }
+}
+
+// Two lists are equal where their items are; the fillers tell nothing.
+impl<T: PartialEq, const N: usize> PartialEq for FixedVec<T, N> {
+    ghost use Rattle.std.specs.Cmp.{on_per};
+    ghost use Rattle.std.specs.Cmp.Lexicographic.{pointwise, lists_per};
+    ghost use Rattle.fixed_vec.specs.Lists.{list_of};
+
+    ghost eq = { λ v w. pointwise T.eq (list_of v) (list_of w) };
+
+    ghost laws = { on_per (λ v. list_of v) (lists_per T.laws) };
+
+    fn eq(&self, other: &Self) -> bool {
+        self.as_slice() == other.as_slice()
+    }
+}
+
+impl<T: Eq, const N: usize> Eq for FixedVec<T, N> {
+    ghost use Rattle.std.specs.Cmp.{on_equiv};
+    ghost use Rattle.std.specs.Cmp.Lexicographic.{lists_equiv};
+    ghost use Rattle.fixed_vec.specs.Lists.{list_of};
+
+    ghost laws = { on_equiv (λ v. list_of v) (lists_equiv T.Eq.laws) };
+}
+
+// As a slice of its items.
+impl<T: fmt::Debug, const N: usize> fmt::Debug for FixedVec<T, N> {
+    ghost use Rattle.std.specs.Fmt.{debug_list};
+    ghost use Rattle.fixed_vec.specs.Lists.{list_of};
+
+    ghost debug_output = { λ v. debug_list T.debug_output (list_of v) };
+
+    fn fmt<W: fmt::Write>(&self, f: &mut fmt::Formatter<W>) -> fmt::Result {
+        fmt::Debug::fmt(&self.as_slice(), f)
     }
 }
 

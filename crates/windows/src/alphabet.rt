@@ -9,7 +9,7 @@ use terms::Refusal;
 
 /// The alphabet of n moves, numbered 1 to n, and the order k, the length of its windows.
 // Both numbers are known to be allowed.
-#[derive(Clone, Copy)]
+#[derive(Clone, Copy, PartialEq, Eq, Debug)]
 pub struct Alphabet {
     pub(crate) moves: u8,
     pub(crate) order: usize,

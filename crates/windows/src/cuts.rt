@@ -13,7 +13,7 @@ use fixed_vec::FixedVec;
 const MOST_WINDOWS: usize = MOST_MOVES + 1;
 
 /// The windows of one play, in order, one at each place.
-#[derive(Clone, Copy)]
+#[derive(Clone, Copy, PartialEq, Eq, Debug)]
 pub struct Cut {
     windows: FixedVec<Word, MOST_WINDOWS>,
 }

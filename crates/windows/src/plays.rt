@@ -14,7 +14,7 @@ pub const MOST_MOVES: usize = 32;
 const MOST_MARKED: usize = MOST_MOVES + 2;
 
 /// A play: a tester's list of moves, at most `MOST_MOVES`. Process mining calls it a trace.
-#[derive(Clone, Copy)]
+#[derive(Clone, Copy, PartialEq, Eq, Debug)]
 pub struct Play {
     pub(crate) moves: FixedVec<u8, MOST_MOVES>,
 }

@@ -10,7 +10,7 @@ use std::fmt;
 pub const MOST_ITEMS: usize = 5;
 
 /// A word: at most `MOST_ITEMS` items, each a move or a mark. A move is a byte with its number.
-#[derive(Clone, Copy, Default)]
+#[derive(Clone, Copy, PartialEq, Eq, Debug, Default)]
 pub struct Word {
     items: FixedVec<u8, MOST_ITEMS>,
 }
