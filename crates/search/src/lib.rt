@@ -6,15 +6,17 @@ ghost use Rattle.search.specs.Places.{Ascending, StandsAt, BelongsAt};
 
 use std::cmp::Ordering;
 
-// A record that tells the number by which it is ordered and found.
+/// A record that tells the number by which it is ordered and found.
 pub trait Keyed {
     ghost key: { Self → ℕ };
 
+    /// The record's number.
     fn tell_key(&self) -> u64
         ensures { result ≡ key self.now };
 }
 
-// Where the record with this key stands, or where one would belong. Each turn halves what is left.
+/// Where the record with this key stands, or where one would belong.
+// Each turn halves what is left.
 pub fn find<R: Keyed>(records: &[R], wanted: u64) -> Result<usize, usize>
     ensures inside { MatchResult result (λ i. i < length records.now) (λ i. i ≤ length records.now) }
     ensures found { IfOk result (λ i. StandsAt R.key records.now wanted i) }

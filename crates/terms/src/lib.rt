@@ -7,31 +7,31 @@ ghost use Rattle.terms.specs.Refusals.{number, text};
 use std::error::Error;
 use std::fmt;
 
-// Why a call was refused. `number` is what a level tool reads; the details are the fields.
+/// Why a call was refused. `number` is what a level tool reads; the details are the fields.
 #[derive(Clone, Copy, PartialEq, Eq, Debug)]
 pub enum Refusal {
-    // A write at a key that is not below the rack's reach.
+    /// A write at a key that is not below the rack's reach.
     BeyondReach,
-    // A write of one more key to a rack whose room is used up.
+    /// A write of one more key to a rack whose room is used up.
     NoRoom,
-    // The book is shut: its number of moves or its order is not allowed.
+    /// The book is shut: its number of moves or its order is not allowed.
     Shut,
-    // A table of no node, or of more than 32.
+    /// A table of no node, or of more than 32.
     NodeCount,
-    // The first wrong node of a table, and its lowest wrong field: 2 its kind, 3 and 4 its numbers.
+    /// The first wrong node of a table, and its lowest wrong field: 2 its kind, 3 and 4 its numbers.
     WrongNode { node: usize, field: u8 },
-    // The model rack's reach is below what the tree's keys need.
+    /// The model rack's reach is below what the tree's keys need.
     ModelReach,
-    // The tree has more rows than the model rack has room for.
+    /// The tree has more rows than the model rack has room for.
     ModelRoom,
-    // A play of more than 32 moves.
+    /// A play of more than 32 moves.
     TooManyMoves,
-    // The move at this place, counted from 1, is the first outside 1 to n.
+    /// The move at this place, counted from 1, is the first outside 1 to n.
     WrongMove { place: usize },
 }
 
 impl Refusal {
-    // The refusal's number, the same in every release.
+    /// The refusal's number, the same in every release.
     pub fn number(&self) -> u8
         ensures { result ≡ number self.now }
     {

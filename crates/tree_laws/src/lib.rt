@@ -6,21 +6,21 @@ ghost use Rattle.tree_laws.specs.Standings.{ComputedLaws, StandingLaws};
 
 use std::fmt;
 
-// A node of a table. Children are node numbers, counted from 1.
+/// A node of a table. Children are node numbers, counted from 1.
 #[derive(Clone, Copy, PartialEq, Eq, Debug, Default)]
 pub enum Node {
-    // The empty route alone.
+    /// The empty route alone.
     #[default]
     Skip,
-    // The route of one move.
+    /// The route of one move.
     Move(u8),
-    // The routes of either child.
+    /// The routes of either child.
     Choice(u8, u8),
-    // A route of the first child, then one of the second.
+    /// A route of the first child, then one of the second.
     Sequence(u8, u8),
-    // A route of the first child, then any number of times one of the second and one of the first.
+    /// A route of the first child, then any number of times one of the second and one of the first.
     Loop(u8, u8),
-    // Every interleaving of a route of the first child with one of the second.
+    /// Every interleaving of a route of the first child with one of the second.
     Parallel(u8, u8),
 }
 
@@ -44,42 +44,42 @@ impl fmt::Display for Node {
 
 // The functions below compute nothing: each contract is a law, which the check has proved.
 
-// A word at a choice has each fact that it has at either child.
+/// A word at a choice has each fact that it has at either child.
 pub fn choice_laws()
     ensures { ChoiceLaws }
 {}
 
-// A word at a sequence lies in one child, or is cut between the two.
+/// A word at a sequence lies in one child, or is cut between the two.
 pub fn sequence_laws()
     ensures { SequenceLaws }
 {}
 
-// A word at a loop lies in one route of a child, or across boundaries between such routes.
+/// A word at a loop lies in one route of a child, or across boundaries between such routes.
 pub fn loop_laws()
     ensures { LoopLaws }
 {}
 
-// A word at parallel children is shared out between them, and each part has the fact that the word has.
+/// A word at parallel children is divided between them, and each part has the fact that the word has.
 pub fn parallel_laws()
     ensures { ParallelLaws }
 {}
 
-// What holds at every node: it has a route, its routes consist of moves, and parts of contained words are contained.
+/// What holds at every node: it has a route, its routes consist of moves, and parts of contained words are contained.
 pub fn node_laws()
     ensures { NodeLaws }
 {}
 
-// Which windows the root plays, by the four facts.
+/// Which windows the root plays, by the four facts.
 pub fn window_laws()
     ensures { WindowLaws }
 {}
 
-// The number worked out from the standings at the children is the standing at the node.
+/// The number worked out from the standings at the children is the standing at the node.
 pub fn computed_laws()
     ensures { ComputedLaws }
 {}
 
-// Every word has exactly one standing, and its bits tell the facts.
+/// Every word has exactly one standing, and its bits tell the facts.
 pub fn standing_laws()
     ensures { StandingLaws }
 {}

@@ -10,17 +10,18 @@ ghost use Rattle.either.specs.declared.Either.TheVariants.{Left, Right};
 
 pub use either::Either;
 
-// Answers a weight for a window, and for any other list of bytes too.
+/// Answers a weight for a window, and for any other list of bytes too.
 pub trait Weighing {
     ghost weight: { Self → List ℕ → ℕ };
 
+    /// The weight of this window.
     fn weigh(&self, window: &[u8]) -> u32
         ensures { result ≡ weight self.now window.now };
 
     ghost range: { (w : Self) (window : List ℕ) → InRange (weight w window) };
 }
 
-// Every window weighs 1.
+/// Every window weighs 1.
 #[derive(Clone, Copy, PartialEq, Eq, Debug, Default)]
 pub struct Flat;
 
@@ -34,7 +35,7 @@ impl Weighing for Flat {
     }
 }
 
-// A window weighs what its dearest move does.
+/// A window weighs what its dearest move does.
 #[derive(Clone, Copy, PartialEq, Eq, Debug, Default)]
 pub struct Dearest;
 
@@ -50,18 +51,18 @@ impl Weighing for Dearest {
 
 const MOVE_WEIGHTS: [u32; 12] = [1, 1, 1, 1, 2, 2, 2, 2, 5, 5, 5, 10];
 
-// The weight of a move; a mark, or any byte that is no move, has none.
+/// The weight of a move; a mark, or any byte that is no move, has none.
 pub fn weight_of(item: u8) -> Option<u32>
     ensures value { MatchOption result (Move 12 item → ⊥) (λ w. Move 12 item × (w ≡ move_weight item)) }
     ensures range { IfSome result (λ w. InRange w) }
 {
     match item {
-        1..=12 => Some(MOVE_WEIGHTS[item as usize - 1]),
+        1..=12 => Some(MOVE_WEIGHTS[usize::from(item) - 1]),
         _ => None,
     }
 }
 
-// The largest weight among the moves of the window, 1 where it has none.
+/// The largest weight among the moves of the window, 1 where it has none.
 pub fn dearest_weight(window: &[u8]) -> u32
     ensures value { result ≡ dearest window.now }
     ensures law { IsDearest window.now result }
@@ -73,7 +74,7 @@ pub fn dearest_weight(window: &[u8]) -> u32
         .unwrap_or(1)
 }
 
-// A weighing of either of two types, so that both can stand in one list.
+/// A weighing of either of two types, so that both can stand in one list.
 impl<L: Weighing, R: Weighing> Weighing for Either<L, R> {
     ghost weight = { either L.Weighing.weight R.Weighing.weight };
 
@@ -107,10 +108,7 @@ mod tests {
     #[test]
     fn two_in_one_list(rt: HostRuntime) {
         let weighings = [Either::Left(Flat), Either::Right(Dearest)];
-        let mut sum = 0u32;
-        for weighing in &weighings {
-            sum = sum.wrapping_add(weighing.weigh(&[43, 12]));
-        }
-        assert_eq!(rt; sum, 11);
+        let weights = weighings.iter().map(|weighing| weighing.weigh(&[43, 12]));
+        assert_eq!(rt; weights.sum::<u32>(), 11);
     }
 }

@@ -9,7 +9,7 @@ use Rattle.terms.proofs.Ends.{from_the_end, all_before_last}
 use Rattle.terms.proofs.Codes.{digit_item, digit_range, code_apart, code_below, code_longer, code_more, code_push, code_small}
 use Rattle.windows.specs.Promises.{Coded}
 use Rattle.windows.specs.Values.{word_items}
-use Rattle.windows.specs.declared.values.Word.{Word as Held}
+use Rattle.windows.specs.declared.words.Word.{Word as Held}
 
 module _ (n : ℕ) (few : n ≤ 12) where
   -- with one item more the code of a part of a word stays small

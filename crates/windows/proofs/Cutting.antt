@@ -7,7 +7,7 @@ use Rattle.terms.specs.Words.{marked, start_mark, end_mark, run, runs, windows}
 use Rattle.terms.proofs.Shapes.{length_marked}
 use Rattle.terms.proofs.Windows.{windows_short, windows_long}
 use Rattle.windows.specs.Values.{word_items}
-use Rattle.windows.specs.declared.values.Word.{Word}
+use Rattle.windows.specs.declared.words.Word.{Word}
 
 -- both marks around the moves w, put one behind the other where there is room
 pub marks_around : (w a b c : List ℕ) → length w ≤ 32 → a ≡ take 34 (start_mark ∷ []) → b ≡ take 34 (a ++ w) → c ≡ take 34 (b ++ (end_mark ∷ [])) → c ≡ marked w

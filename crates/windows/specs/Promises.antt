@@ -6,7 +6,7 @@ use Rattle.terms.specs.Words.{Allowed, FirstWrong, Moves, most_moves}
 use Rattle.terms.specs.declared.Refusal.{Refusal}
 use Rattle.windows.specs.Values.{play_moves}
 use Rattle.windows.specs.declared.alphabet.Alphabet.{Alphabet}
-use Rattle.windows.specs.declared.values.Play.{Play}
+use Rattle.windows.specs.declared.plays.Play.{Play}
 
 -- the alphabet of n moves and the order k, or 10 exactly where n or k is not allowed
 abbrev pub Opens : ℕ → ℕ → Result Alphabet Refusal → Type 0

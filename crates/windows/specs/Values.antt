@@ -1,9 +1,9 @@
 -- What the values of this crate stand for: a word's items, a play's moves, the windows of a cut.
 use Rattle.std.specs.Prelude.{ℕ, List, map}
 use Rattle.fixed_vec.specs.Lists.{list_of}
-use Rattle.windows.specs.declared.values.Cut.{Cut}
-use Rattle.windows.specs.declared.values.Play.{Play}
-use Rattle.windows.specs.declared.values.Word.{Word}
+use Rattle.windows.specs.declared.cuts.Cut.{Cut}
+use Rattle.windows.specs.declared.plays.Play.{Play}
+use Rattle.windows.specs.declared.words.Word.{Word}
 
 abbrev pub word_items : Word → List ℕ
 word_items w = list_of w.items

@@ -6,17 +6,17 @@ ghost use Rattle.windows.specs.Values.{word_items};
 
 use crate::alphabet::Alphabet;
 use crate::marks::{END_MARK, START_MARK};
-use crate::values::Word;
+use crate::words::Word;
 
 impl Alphabet {
-    // B, the base in which a word's digits are read.
+    /// B, the base in which a word's digits are read.
     pub fn base(&self) -> u32
         ensures { result ≡ the_base self.now.moves }
     {
         u32::from(self.moves) + 3
     }
 
-    // B to the power of k: every code lies below it.
+    /// B to the power of k: every code lies below it.
     pub fn code_limit(&self) -> u32
         ensures value { result ≡ the_base self.now.moves ^ self.now.order }
         ensures bound { result ≤ 759375 }
@@ -24,7 +24,7 @@ impl Alphabet {
         self.base().pow(self.order as u32)
     }
 
-    // The digit of a move or a mark; nothing for any other byte.
+    /// The digit of a move or a mark; nothing for any other byte.
     pub fn digit(&self, item: u8) -> Option<u8>
         ensures { MatchOption result (Item self.now.moves item → ⊥) (λ d. Item self.now.moves item × (d ≡ the_digit self.now.moves item)) }
     {
@@ -36,7 +36,7 @@ impl Alphabet {
         }
     }
 
-    // The code of a word of at most k items; nothing where these bytes are no such word.
+    /// The code of a word of at most k items; nothing where these bytes are no such word.
     pub fn code(&self, word: &[u8]) -> Option<u32>
         ensures { MatchOption result (IsWord self.now.moves self.now.order word.now → ⊥) (Coded self.now.moves self.now.order word.now) }
     {
@@ -68,7 +68,7 @@ impl Alphabet {
         }
     }
 
-    // The word of at most k items with this code; nothing where no word has it.
+    /// The word of at most k items with this code; nothing where no word has it.
     pub fn word(&self, code: u32) -> Option<Word>
         ensures { MatchOption result (NoWordWith self.now.moves self.now.order code) (λ w. WordWith self.now.moves self.now.order code (word_items w)) }
     {

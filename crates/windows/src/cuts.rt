@@ -1,32 +1,21 @@
-// Cutting a play into its windows, and telling a window from other bytes.
+// Cutting a play into its windows.
 ghost use Rattle.std.specs.Prelude.{◌≡◌, ℕ, ◌+◌, ◌≤◌, ◌↔◌, List, map, length, take, Contains, count_by};
 ghost use Rattle.std.specs.Str.{bytes_eq as same_text};
 ghost use Rattle.terms.specs.Words.{Cuts, WindowOf, marked, runs, windows};
-ghost use Rattle.fixed_vec.specs.Lists.{list_of};
 ghost use Rattle.windows.specs.Values.{word_items, play_moves, cut_windows};
 
 use crate::alphabet::Alphabet;
-use crate::marks::{END_MARK, START_MARK};
-use crate::values::{Cut, Play, Word};
+use crate::plays::{MOST_MOVES, Play};
+use crate::words::Word;
 use fixed_vec::FixedVec;
 
-impl Play {
-    pub fn moves(&self) -> &[u8]
-        ensures { result.now ≡ play_moves self.now }
-    {
-        self.moves.as_slice()
-    }
+// The longest marked list has this many runs of two items.
+const MOST_WINDOWS: usize = MOST_MOVES + 1;
 
-    // The start mark, the moves, the end mark.
-    fn marked(&self) -> FixedVec<u8, 34>
-        ensures { list_of result ≡ marked (play_moves self.now) }
-    {
-        let mut items = FixedVec::new();
-        items.push(START_MARK);
-        items.extend_from_slice(self.moves());
-        items.push(END_MARK);
-        items
-    }
+/// The windows of one play, in order, one at each place.
+#[derive(Clone, Copy, PartialEq, Eq, Debug)]
+pub struct Cut {
+    windows: FixedVec<Word, MOST_WINDOWS>,
 }
 
 // All runs of `order` items, one at each place.
@@ -44,8 +33,8 @@ fn all_runs(items: &[u8], order: usize) -> Cut
 }
 
 impl Alphabet {
-    // The windows of the play: its marked list where that has at most k items, else all runs of k. A list that is not
-    // longer than k has itself as its one run of its own length.
+    /// The windows of the play: its marked list where that has at most k items, else all runs of k.
+    // A list that is not longer than k has itself as its one run of its own length.
     pub fn cut(&self, play: &Play) -> Cut
         ensures law { Cuts self.now.order (marked (play_moves play.now)) (cut_windows result) }
         ensures members { (u : List ℕ) → Contains (cut_windows result) u ↔ WindowOf self.now.order (marked (play_moves play.now)) u }
@@ -58,14 +47,14 @@ impl Alphabet {
 }
 
 impl Cut {
-    // The windows, in order.
+    /// The windows, in order.
     pub fn windows(&self) -> &[Word]
         ensures { map word_items result.now ≡ cut_windows self.now }
     {
         self.windows.as_slice()
     }
 
-    // At how many places this word stands among the windows.
+    /// At how many places this word stands among the windows.
     pub fn count(&self, word: &[u8]) -> usize
         ensures { result ≡ count_by (λ w. same_text w word.now) (cut_windows self.now) }
     {

@@ -2,13 +2,14 @@
 #![tactic(auto)]
 
 mod alphabet;
-mod checks;
 mod codes;
 mod cuts;
 mod marks;
-mod values;
+mod plays;
 mod words;
 
 pub use alphabet::Alphabet;
+pub use cuts::Cut;
 pub use marks::{END_MARK, START_MARK};
-pub use values::{Cut, Play, Window, Word};
+pub use plays::{MOST_MOVES, Play};
+pub use words::{MOST_ITEMS, Window, Word};

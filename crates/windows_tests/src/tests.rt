@@ -41,21 +41,29 @@ fn windows_of_the_longest_play(rt: HostRuntime) -> Result<(), Fail> {
     Ok(())
 }
 
+// Why there is no such play, where there is none.
 fn refusal(n: u16, k: u16, moves: &[u8]) -> Option<Refusal> {
-    match Alphabet::new(n, k) {
-        Ok(alphabet) => alphabet.play(moves).err(),
-        Err(refusal) => Some(refusal),
+    Alphabet::new(n, k)
+        .and_then(|alphabet| alphabet.play(moves))
+        .err()
+}
+
+#[test]
+fn refused_alphabets(rt: HostRuntime) {
+    for (n, k) in [(0, 2), (13, 2), (1, 1), (1, 6), (0, 0), (65_535, 65_535)] {
+        assert_eq!(rt; refusal(n, k, &[]), Some(Refusal::Shut));
+    }
+}
+
+#[test]
+fn allowed_alphabets(rt: HostRuntime) {
+    for (n, k) in [(1, 2), (12, 2), (1, 5), (12, 5)] {
+        assert_eq!(rt; refusal(n, k, &[]), None);
     }
 }
 
 #[test]
 fn refused_numbers(rt: HostRuntime) {
-    for (n, k) in [(0, 2), (13, 2), (1, 1), (1, 6), (0, 0), (65_535, 65_535)] {
-        assert_eq!(rt; refusal(n, k, &[]), Some(Refusal::Shut));
-    }
-    for (n, k) in [(1, 2), (12, 2), (1, 5), (12, 5)] {
-        assert_eq!(rt; refusal(n, k, &[]), None);
-    }
     assert_eq!(rt; Refusal::Shut.number(), 10);
     assert_eq!(rt; Refusal::TooManyMoves.number(), 17);
     assert_eq!(rt; Refusal::WrongMove { place: 1 }.number(), 18);
@@ -103,30 +111,42 @@ fn codes_and_words(rt: HostRuntime) -> Result<(), Fail> {
 }
 
 #[test]
-fn windows_among_bytes(rt: HostRuntime) -> Result<(), Fail> {
+fn windows_of_order_two(rt: HostRuntime) -> Result<(), Fail> {
     let two = Alphabet::new(2, 2)?;
+    let cases = [
+        (b"+-", true),
+        (b"+\x01", true),
+        (b"\x01-", true),
+        (b"\x01\x02", true),
+        (b"-+", false),
+        (b"++", false),
+        (b"--", false),
+        (b"\x01+", false),
+        (b"-\x01", false),
+        (b"\x01\x03", false),
+        (b"+\x00", false),
+    ];
+    for (bytes, is_one) in cases {
+        assert_eq!(rt; two.is_window(bytes), is_one);
+    }
+    Ok(())
+}
+
+#[test]
+fn windows_of_order_three(rt: HostRuntime) -> Result<(), Fail> {
     let three = Alphabet::new(2, 3)?;
-    for bytes in [b"+-", b"+\x01", b"\x01-", b"\x01\x02"] {
-        assert!(rt; two.is_window(bytes));
+    let cases: [(&[u8], bool); 8] = [
+        (b"+-", true),
+        (b"+\x01-", true),
+        (b"+\x01\x02", true),
+        (b"+\x01", false),
+        (b"\x01-", false),
+        (b"\x01\x02\x01\x02", false),
+        (b"+", false),
+        (b"", false),
+    ];
+    for (bytes, is_one) in cases {
+        assert_eq!(rt; three.is_window(bytes), is_one);
     }
-    for bytes in [
-        b"-+",
-        b"++",
-        b"--",
-        b"\x01+",
-        b"-\x01",
-        b"\x01\x03",
-        b"+\x00",
-    ] {
-        assert!(rt; !two.is_window(bytes));
-    }
-    assert!(rt; three.is_window(b"+-"));
-    assert!(rt; three.is_window(b"+\x01-"));
-    assert!(rt; three.is_window(b"+\x01\x02"));
-    assert!(rt; !three.is_window(b"+\x01"));
-    assert!(rt; !three.is_window(b"\x01-"));
-    assert!(rt; !three.is_window(b"\x01\x02\x01\x02"));
-    assert!(rt; !three.is_window(b"+"));
-    assert!(rt; !three.is_window(b""));
     Ok(())
 }

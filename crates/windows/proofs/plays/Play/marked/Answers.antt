@@ -2,7 +2,7 @@ use Rattle.std.proofs.Common.{length, ◌≤◌, ap, ◌∙◌, ◌++◌, [], �
 use Rattle.fixed_vec.proofs.Room.{room}
 use Rattle.terms.specs.Words.{marked}
 use Rattle.windows.proofs.Cutting.{marks_around}
-use Rattle.windows.proofs.values.Play.marked.Goals as goal
+use Rattle.windows.proofs.plays.Play.marked.Goals as goal
 
 pub returns : goal.returns
 returns c =
