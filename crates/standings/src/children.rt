@@ -16,6 +16,28 @@ pub(crate) struct Children<'a, R> {
     pub(crate) second: u8,
 }
 
+impl<'a, R> Children<'a, R> {
+    pub(crate) fn new(
+        alphabet: &'a Alphabet,
+        rack: &'a mut R,
+        first: u8,
+        second: u8,
+    ) -> Children<'a, R>
+        ensures alphabet { result.alphabet.now ≡ alphabet.now }
+        ensures rack { result.rack.now ≡ rack.old }
+        ensures name { result.rack.ghost_name ≡ rack.entry.ghost_name }
+        ensures first { result.first ≡ first }
+        ensures second { result.second ≡ second }
+    {
+        Children {
+            alphabet,
+            rack,
+            first,
+            second,
+        }
+    }
+}
+
 impl<R: Rack> Children<'_, R> {
     // The standing of the word at the first child.
     pub(crate) fn at_first(&mut self, word: &[u8]) -> u32

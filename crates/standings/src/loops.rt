@@ -3,13 +3,20 @@ ghost use Rattle.std.specs.Prelude.{◌≡◌, ◌+◌, ◌≤◌, length, if◌
 ghost use Rattle.tree_laws.specs.Boundaries.{next_a, next_b};
 ghost use Rattle.tree_laws.specs.Computed.{has, ors, start_bit, piece_bit, state_bit, rest_bits, run_standing, loop_standing};
 ghost use Rattle.standings.specs.Children.{by_rows, Unaltered};
-ghost use Rattle.standings.specs.Loops.{columns};
+ghost use Rattle.standings.specs.Loops.{columns, in_middle};
 ghost use Rattle.standings.specs.Rows.{ShortMoves};
 
 use crate::children::Children;
 use crate::rows::{BEGINS, CONTAINED, ENDS, WHOLE};
 use fixed_vec::FixedVec;
 use racks::Rack;
+
+// Where in the loop a word begins.
+#[derive(Clone, Copy, PartialEq, Eq, Debug)]
+pub(crate) enum Entry {
+    Start,
+    Middle,
+}
 
 // The boundaries at a position of a word: WHOLE in `a` if one is reached there behind which the first child is next,
 // and WHOLE in `b` for the second.
@@ -28,23 +35,24 @@ fn boundary(standing: u32) -> u32
 
 impl<R: Rack> Children<'_, R> {
     // Reached by a start: at the start of the loop, or in its middle where the front ends a route of the other child.
-    fn start(&mut self, middle: bool, word: &[u8], end: usize) -> States
+    fn start(&mut self, entry: Entry, word: &[u8], end: usize) -> States
         requires word { ShortMoves self.old.alphabet.now word.now }
         requires within { end ≤ length word.now }
-        ensures a { result.a ≡ by_rows R.view self.old (start_bit middle) word.now end next_a }
-        ensures b { result.b ≡ by_rows R.view self.old (start_bit middle) word.now end next_b }
+        ensures a { result.a ≡ by_rows R.view self.old (start_bit (in_middle entry)) word.now end next_a }
+        ensures b { result.b ≡ by_rows R.view self.old (start_bit (in_middle entry)) word.now end next_b }
         ensures unaltered { Unaltered R.view self.old self.new }
     {
-        if middle {
-            let front = &word[..end];
-            States {
-                a: boundary(self.at_second(front)),
-                b: boundary(self.at_first(front)),
-            }
-        } else {
-            States {
+        match entry {
+            Entry::Start => States {
                 a: if end == 0 { WHOLE } else { 0 },
                 b: 0,
+            },
+            Entry::Middle => {
+                let front = &word[..end];
+                States {
+                    a: boundary(self.at_second(front)),
+                    b: boundary(self.at_first(front)),
+                }
             }
         }
     }
@@ -68,14 +76,14 @@ impl<R: Rack> Children<'_, R> {
     }
 
     // The states at the position behind those that are given.
-    fn reached(&mut self, middle: bool, word: &[u8], states: &[States]) -> States
+    fn reached(&mut self, entry: Entry, word: &[u8], states: &[States]) -> States
         requires word { ShortMoves self.old.alphabet.now word.now }
         requires within { length states.now ≤ length word.now }
-        ensures a { result.a ≡ by_rows R.view self.old (state_bit middle) word.now (columns states.now) (length states.now) next_a }
-        ensures b { result.b ≡ by_rows R.view self.old (state_bit middle) word.now (columns states.now) (length states.now) next_b }
+        ensures a { result.a ≡ by_rows R.view self.old (state_bit (in_middle entry)) word.now (columns states.now) (length states.now) next_a }
+        ensures b { result.b ≡ by_rows R.view self.old (state_bit (in_middle entry)) word.now (columns states.now) (length states.now) next_b }
         ensures unaltered { Unaltered R.view self.old self.new }
     {
-        let start = self.start(middle, word, states.len());
+        let start = self.start(entry, word, states.len());
         let arrived = self.arrived(word, states);
         let a = start.a | arrived.a;
         let b = start.b | arrived.b;
@@ -103,15 +111,15 @@ impl<R: Rack> Children<'_, R> {
 
     // From the start or the middle of the loop: whether the word may end the loop, and whether it may stop before the end.
     #[tactic(auto, using(crate::proofs::LoopStates::run_is))]
-    fn run(&mut self, middle: bool, word: &[u8]) -> u32
+    fn run(&mut self, entry: Entry, word: &[u8]) -> u32
         requires { ShortMoves self.old.alphabet.now word.now }
-        ensures answer { result ≡ by_rows R.view self.old (run_standing middle) word.now }
+        ensures answer { result ≡ by_rows R.view self.old (run_standing (in_middle entry)) word.now }
         ensures unaltered { Unaltered R.view self.old self.new }
     {
         // A word of five items has six positions.
         let mut states = FixedVec::<States, 6>::new();
         for _ in 0..word.len() + 1 {
-            let next = self.reached(middle, word, states.as_slice());
+            let next = self.reached(entry, word, states.as_slice());
             states.push(next);
         }
         let states = states.as_slice();
@@ -125,9 +133,9 @@ impl<R: Rack> Children<'_, R> {
         ensures answer { result ≡ by_rows R.view self.old loop_standing word.now }
         ensures unaltered { Unaltered R.view self.old self.new }
     {
-        let fresh = self.run(false, word);
+        let fresh = self.run(Entry::Start, word);
         // In the middle of the loop a whole run only ends, and a beginning is only contained.
-        let middle = self.run(true, word) >> 1;
+        let middle = self.run(Entry::Middle, word) >> 1;
         let inside = self.choice(word) & CONTAINED;
         fresh | middle | inside
     }
