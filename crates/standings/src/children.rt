@@ -1,5 +1,5 @@
 // The rows of the two children of a node.
-ghost use Rattle.std.specs.Prelude.{◌≡◌};
+ghost use Rattle.std.specs.Prelude.{◌≡◌, bit_and};
 ghost use Rattle.standings.specs.Children.{first_rows, second_rows, Unaltered};
 ghost use Rattle.standings.specs.Rows.{ShortMoves};
 
@@ -55,5 +55,29 @@ impl<R: Rack> Children<'_, R> {
         ensures unaltered { Unaltered R.view self.old self.new }
     {
         row(self.alphabet, self.rack, self.second, word)
+    }
+
+    // The bits that the word's standing at the first child shares with the mask: with no bit in it, nothing is read.
+    pub(crate) fn masked_first(&mut self, mask: u32, word: &[u8]) -> u32
+        requires { ShortMoves self.old.alphabet.now word.now }
+        ensures answer { result ≡ bit_and mask (first_rows R.view self.old word.now) }
+        ensures unaltered { Unaltered R.view self.old self.new }
+    {
+        if mask == 0 {
+            return 0;
+        }
+        mask & self.at_first(word)
+    }
+
+    // The same at the second child.
+    pub(crate) fn masked_second(&mut self, mask: u32, word: &[u8]) -> u32
+        requires { ShortMoves self.old.alphabet.now word.now }
+        ensures answer { result ≡ bit_and mask (second_rows R.view self.old word.now) }
+        ensures unaltered { Unaltered R.view self.old self.new }
+    {
+        if mask == 0 {
+            return 0;
+        }
+        mask & self.at_second(word)
     }
 }

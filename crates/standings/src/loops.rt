@@ -69,8 +69,8 @@ impl<R: Rack> Children<'_, R> {
         let mut reached = States { a: 0, b: 0 };
         for (i, state) in states.iter().enumerate() {
             let piece = &word[i..states.len()];
-            reached.a |= state.b & self.at_second(piece);
-            reached.b |= state.a & self.at_first(piece);
+            reached.a |= self.masked_second(state.b, piece);
+            reached.b |= self.masked_first(state.a, piece);
         }
         reached
     }
@@ -89,12 +89,13 @@ impl<R: Rack> Children<'_, R> {
         let b = start.b | arrived.b;
         // An empty route of a child carries over from its turn to the other's.
         States {
-            a: a | b & self.at_second(&[]),
-            b: b | a & self.at_first(&[]),
+            a: a | self.masked_second(b, &[]),
+            b: b | self.masked_first(a, &[]),
         }
     }
 
     // The rest of the word from each position on begins a route of the child that is next there.
+    #[tactic(auto, using(tree_laws::proofs::Bits::ors_more, crate::proofs::LoopStates::a_at, crate::proofs::LoopStates::b_at))]
     fn rests(&mut self, word: &[u8], states: &[States]) -> u32
         requires word { ShortMoves self.old.alphabet.now word.now }
         requires within { length states.now ≤ length word.now + 1 }
@@ -104,7 +105,7 @@ impl<R: Rack> Children<'_, R> {
         let mut bits = 0;
         for (j, state) in states.iter().enumerate() {
             let rest = &word[j..];
-            bits |= (state.a >> 2) & self.at_first(rest) | (state.b >> 2) & self.at_second(rest);
+            bits |= self.masked_first(state.a >> 2, rest) | self.masked_second(state.b >> 2, rest);
         }
         bits
     }
