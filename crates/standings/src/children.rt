@@ -57,7 +57,7 @@ impl<R: Rack> Children<'_, R> {
         row(self.alphabet, self.rack, self.second, word)
     }
 
-    // The bits that the word's standing at the first child shares with the mask: with no bit in it, nothing is read.
+    // The bits of the mask that are in the word's standing at the first child. For an empty mask no row is read.
     pub(crate) fn masked_first(&mut self, mask: u32, word: &[u8]) -> u32
         requires { ShortMoves self.old.alphabet.now word.now }
         ensures answer { result ≡ bit_and mask (first_rows R.view self.old word.now) }
@@ -69,7 +69,7 @@ impl<R: Rack> Children<'_, R> {
         mask & self.at_first(word)
     }
 
-    // The same at the second child.
+    // The bits of the mask that are in the word's standing at the second child. For an empty mask no row is read.
     pub(crate) fn masked_second(&mut self, mask: u32, word: &[u8]) -> u32
         requires { ShortMoves self.old.alphabet.now word.now }
         ensures answer { result ≡ bit_and mask (second_rows R.view self.old word.now) }

@@ -1,7 +1,8 @@
 // A route of the first child, then any number of times one of the second and one of the first.
 ghost use Rattle.std.specs.Prelude.{◌≡◌, ◌+◌, ◌≤◌, length, if◌then◌else◌};
 ghost use Rattle.tree_laws.specs.Boundaries.{next_a, next_b};
-ghost use Rattle.tree_laws.specs.Computed.{has, ors, start_bit, piece_bit, state_bit, rest_bits, run_standing, loop_standing};
+ghost use Rattle.tree_laws.specs.Computed.{has, ors, start_bit, piece_bit, state_bit, rest_bits};
+ghost use Rattle.tree_laws.specs.Computed.{run_standing, loop_standing};
 ghost use Rattle.standings.specs.Children.{by_rows, Unaltered};
 ghost use Rattle.standings.specs.Loops.{columns, in_middle};
 ghost use Rattle.standings.specs.Rows.{ShortMoves};
@@ -26,7 +27,7 @@ pub(crate) struct States {
     pub(crate) b: u32,
 }
 
-// A route that ends here leaves a boundary behind it.
+// Behind the end of a route of one child is a boundary with the other next.
 fn boundary(standing: u32) -> u32
     ensures { result ≡ (if has standing 4 then 8 else 0) }
 {
@@ -58,11 +59,16 @@ impl<R: Rack> Children<'_, R> {
     }
 
     // Reached from a lower position by a whole route of the child that was next there.
-    #[tactic(auto, using(tree_laws::proofs::Bits::ors_more, crate::proofs::LoopStates::a_at, crate::proofs::LoopStates::b_at))]
+    #[tactic(
+        auto,
+        using(tree_laws::proofs::Bits::ors_more, crate::proofs::LoopStates::a_at, crate::proofs::LoopStates::b_at)
+    )]
     fn arrived(&mut self, word: &[u8], states: &[States]) -> States
         requires word { ShortMoves self.old.alphabet.now word.now }
         requires within { length states.now ≤ length word.now }
-        ensures a { result.a ≡ ors (by_rows R.view self.old piece_bit word.now (columns states.now).1 (length states.now) next_b) (length states.now) }
+        ensures a {
+            result.a ≡ ors (by_rows R.view self.old piece_bit word.now (columns states.now).1 (length states.now) next_b) (length states.now)
+        }
         ensures b { result.b ≡ ors (by_rows R.view self.old piece_bit word.now (columns states.now).0 (length states.now) next_a) (length states.now) }
         ensures unaltered { Unaltered R.view self.old self.new }
     {
@@ -87,7 +93,7 @@ impl<R: Rack> Children<'_, R> {
         let arrived = self.arrived(word, states);
         let a = start.a | arrived.a;
         let b = start.b | arrived.b;
-        // An empty route of a child carries over from its turn to the other's.
+        // Where a child is next and has the empty route, the other is next as well.
         States {
             a: a | self.masked_second(b, &[]),
             b: b | self.masked_first(a, &[]),
@@ -95,7 +101,10 @@ impl<R: Rack> Children<'_, R> {
     }
 
     // The rest of the word from each position on begins a route of the child that is next there.
-    #[tactic(auto, using(tree_laws::proofs::Bits::ors_more, crate::proofs::LoopStates::a_at, crate::proofs::LoopStates::b_at))]
+    #[tactic(
+        auto,
+        using(tree_laws::proofs::Bits::ors_more, crate::proofs::LoopStates::a_at, crate::proofs::LoopStates::b_at)
+    )]
     fn rests(&mut self, word: &[u8], states: &[States]) -> u32
         requires word { ShortMoves self.old.alphabet.now word.now }
         requires within { length states.now ≤ length word.now + 1 }
@@ -110,7 +119,7 @@ impl<R: Rack> Children<'_, R> {
         bits
     }
 
-    // From the start or the middle of the loop: whether the word may end the loop, and whether it may stop before the end.
+    // WHOLE where a word that begins there may end the loop, and BEGINS where it may stop before the end.
     #[tactic(auto, using(crate::proofs::LoopStates::run_is))]
     fn run(&mut self, entry: Entry, word: &[u8]) -> u32
         requires { ShortMoves self.old.alphabet.now word.now }
