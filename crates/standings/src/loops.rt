@@ -59,16 +59,11 @@ impl<R: Rack> Children<'_, R> {
     }
 
     // Reached from a lower position by a whole route of the child that was next there.
-    #[tactic(
-        auto,
-        using(tree_laws::proofs::Bits::ors_more, crate::proofs::LoopStates::a_at, crate::proofs::LoopStates::b_at)
-    )]
+    #[tactic(auto, using(tree_laws::proofs::Bits::ors_more, crate::proofs::LoopStates::a_at, crate::proofs::LoopStates::b_at))]
     fn arrived(&mut self, word: &[u8], states: &[States]) -> States
         requires word { ShortMoves self.old.alphabet.now word.now }
         requires within { length states.now ≤ length word.now }
-        ensures a {
-            result.a ≡ ors (by_rows R.view self.old piece_bit word.now (columns states.now).1 (length states.now) next_b) (length states.now)
-        }
+        ensures a { result.a ≡ ors (by_rows R.view self.old piece_bit word.now (columns states.now).1 (length states.now) next_b) (length states.now) }
         ensures b { result.b ≡ ors (by_rows R.view self.old piece_bit word.now (columns states.now).0 (length states.now) next_a) (length states.now) }
         ensures unaltered { Unaltered R.view self.old self.new }
     {
@@ -101,10 +96,7 @@ impl<R: Rack> Children<'_, R> {
     }
 
     // The rest of the word from each position on begins a route of the child that is next there.
-    #[tactic(
-        auto,
-        using(tree_laws::proofs::Bits::ors_more, crate::proofs::LoopStates::a_at, crate::proofs::LoopStates::b_at)
-    )]
+    #[tactic(auto, using(tree_laws::proofs::Bits::ors_more, crate::proofs::LoopStates::a_at, crate::proofs::LoopStates::b_at))]
     fn rests(&mut self, word: &[u8], states: &[States]) -> u32
         requires word { ShortMoves self.old.alphabet.now word.now }
         requires within { length states.now ≤ length word.now + 1 }
