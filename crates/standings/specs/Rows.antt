@@ -1,4 +1,5 @@
--- Where a rack keeps the standing of a word at a node: the row of the word u at the node v has the key v * B ^ k + code u.
+-- Where a rack has the standing of a word at a node: the row of the word u at the node v has the key
+-- v * B ^ k + code u.
 use Rattle.std.specs.Prelude.{◌≡◌, ◌≤◌, ℕ, List, length}
 use Rattle.terms.specs.Codes.{Word}
 use Rattle.terms.specs.Words.{Moves}

@@ -1,7 +1,6 @@
 // The standing of a word at a node.
 ghost use Rattle.std.specs.Prelude.{◌≡◌, ◌<◌, ◌≤◌, length};
 ghost use Rattle.terms.specs.Words.{Moves};
-ghost use Rattle.tree_laws.specs.Children.{first_child, second_child};
 ghost use Rattle.standings.specs.Rows.{ShortMoves, standing_by};
 
 use crate::children::Children;
@@ -10,44 +9,23 @@ use racks::Rack;
 use tree_laws::Node;
 use windows::Alphabet;
 
-// The children of a node, 0 where it has none.
-fn children(node: Node) -> (u8, u8)
-    ensures first { result.0 ≡ first_child node }
-    ensures second { result.1 ≡ second_child node }
-{
-    match node {
-        Node::Skip | Node::Move(_) => (0, 0),
-        Node::Choice(first, second)
-        | Node::Sequence(first, second)
-        | Node::Loop(first, second)
-        | Node::Parallel(first, second) => (first, second),
-    }
-}
-
-// Each kind of node in its own way.
+// The standing by the kind of the node.
 fn by_kind<R: Rack>(alphabet: &Alphabet, node: Node, rack: &mut R, word: &[u8]) -> u32
     requires { ShortMoves alphabet.now word.now }
     ensures answer { result ≡ standing_by alphabet.now.moves alphabet.now.order (R.view rack.old).number node word.now }
     ensures unaltered { R.view rack.new ≡ R.view rack.old }
 {
-    let (first, second) = children(node);
-    let mut children = Children {
-        alphabet,
-        rack,
-        first,
-        second,
-    };
     match node {
         Node::Skip => skip(word),
         Node::Move(only) => single(only, word),
-        Node::Choice(..) => children.choice(word),
-        Node::Sequence(..) => children.sequence(word),
-        Node::Loop(..) => children.repeat(word),
-        Node::Parallel(..) => children.parallel(word),
+        Node::Choice(a, b) => Children::new(alphabet, rack, a, b).choice(word),
+        Node::Sequence(a, b) => Children::new(alphabet, rack, a, b).sequence(word),
+        Node::Loop(a, b) => Children::new(alphabet, rack, a, b).repeat(word),
+        Node::Parallel(a, b) => Children::new(alphabet, rack, a, b).parallel(word),
     }
 }
 
-// The standing of the word at the node by the rows of the node's children, 0 for what is no word of at most k moves.
+/// The standing of the word at the node by the rows of the node's children, 0 for what is no word of at most k moves.
 pub fn standing<R: Rack>(alphabet: &Alphabet, node: Node, rack: &mut R, word: &[u8]) -> u32
     ensures answer { Moves alphabet.now.moves word.now → length word.now ≤ alphabet.now.order → result ≡ standing_by alphabet.now.moves alphabet.now.order (R.view rack.old).number node word.now }
     ensures too_long { alphabet.now.order < length word.now → result ≡ 0 }

@@ -9,7 +9,7 @@ use crate::splits::split;
 use racks::Rack;
 
 impl<R: Rack> Children<'_, R> {
-    // The word shared out between the children in every way.
+    // Each item in the word of one child or of the other, in every way.
     #[tactic(auto, using(tree_laws::proofs::Bits::ors_more))]
     pub(crate) fn parallel(&mut self, word: &[u8]) -> u32
         requires { ShortMoves self.old.alphabet.now word.now }

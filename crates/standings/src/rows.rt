@@ -5,7 +5,9 @@ ghost use Rattle.standings.specs.Rows.{RowRead};
 use racks::Rack;
 use windows::Alphabet;
 
-// The bits of a standing. The word lies in a route of the node.
+// A standing has four bits.
+
+// The word lies in a route of the node.
 pub(crate) const CONTAINED: u32 = 1;
 
 // The word is the beginning of a route.
@@ -17,7 +19,7 @@ pub(crate) const ENDS: u32 = 4;
 // The word is a whole route.
 pub(crate) const WHOLE: u32 = 8;
 
-// The number in the row of the word at the node, 0 where the bytes are no word.
+/// The number in the row of the word at the node, 0 where the bytes are no word.
 pub fn row<R: Rack>(alphabet: &Alphabet, rack: &mut R, node: u8, word: &[u8]) -> u32
     ensures answer { RowRead alphabet.now.moves alphabet.now.order (R.view rack.old).number node word.now result }
     ensures unaltered { R.view rack.new ≡ R.view rack.old }

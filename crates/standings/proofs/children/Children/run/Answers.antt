@@ -5,7 +5,7 @@ use Rattle.tree_laws.specs.Computed.{state_bit}
 use Rattle.standings.specs.declared.children.Children.{Children}
 use Rattle.standings.specs.Children.{first_rows, second_rows, by_rows, Unaltered}
 use Rattle.standings.specs.Rows.{rows_in}
-use Rattle.standings.specs.Loops.{columns}
+use Rattle.standings.specs.Loops.{columns, in_middle}
 use Rattle.standings.proofs.LoopStates.{held_more}
 use Rattle.standings.proofs.children.Children.run.Goals as goal
 
@@ -16,7 +16,7 @@ as_before same f x e = e ∙ (λ i. f (rows_in (same.alphabet i) (same.rack i) (
 
 pub loop-preserved : goal.loop-preserved
 loop-preserved g c =
-    let middle = c.args.middle in
+    let middle = in_middle c.args.entry in
     let sa = first_rows g.R.Rack.view c.args.self.now in
     let sb = second_rows g.R.Rack.view c.args.self.now in
     let u = c.args.word.now in
