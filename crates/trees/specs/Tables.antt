@@ -32,6 +32,10 @@ WrongField n v x f =
     ⊎ (((f ≡ 3) × (x.kind ≤ 5) × (GoodFirst n v x.kind x.a → ⊥))
     ⊎ ((f ≡ 4) × (x.kind ≤ 5) × GoodFirst n v x.kind x.a × (GoodSecond v x.kind x.b → ⊥)))
 
+-- f is the lower of the two fields that names no node before node v
+abbrev pub WrongChild : ℕ → RawNode → ℕ → Type 0
+WrongChild v x f = ((f ≡ 3) × (Lower v x.a → ⊥)) ⊎ ((f ≡ 4) × Lower v x.a × (Lower v x.b → ⊥))
+
 -- the node that a good triple stands for
 abbrev pub node_of : RawNode → Node
 node_of x =
