@@ -45,6 +45,15 @@ node_of x =
     else (if x.kind == 3 then Sequence x.a x.b
     else (if x.kind == 4 then Loop x.a x.b else Parallel x.a x.b))))
 
+-- the triple that stands for a node
+abbrev pub raw_of : Node → RawNode
+raw_of Skip = record { kind = 0; a = 0; b = 0 }
+raw_of (Single x) = record { kind = 1; a = x; b = 0 }
+raw_of (Choice a b) = record { kind = 2; a = a; b = b }
+raw_of (Sequence a b) = record { kind = 3; a = a; b = b }
+raw_of (Loop a b) = record { kind = 4; a = a; b = b }
+raw_of (Parallel a b) = record { kind = 5; a = a; b = b }
+
 -- the first m nodes of the table are good
 abbrev pub AllGood : ℕ → List RawNode → ℕ → Type 0
 AllGood n table m = (i : ℕ) (d : RawNode) → i < m → Good n (i + 1) (slice_index_or table i d)
