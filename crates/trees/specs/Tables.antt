@@ -69,7 +69,8 @@ pub record FirstWrongNode (n : ℕ) (table : List RawNode) (v f : ℕ) : Type 0 
   pub wrong : (d : RawNode) → WrongField n v (slice_index_or table (v - 1) d) f
   pub good_before : AllGood n table (v - 1)
 
--- 11 where there is no node or there are more than 32, otherwise 12 with the first wrong node and its lowest wrong field
+-- 11 where there is no node or there are more than 32, otherwise 12 with the first wrong node and its lowest wrong
+-- field
 abbrev pub TableRefused : ℕ → List RawNode → Refusal → Type 0
 TableRefused n table e =
     (Says e 11 [] × (NodeCountAllowed table → ⊥))

@@ -2,7 +2,7 @@ use Rattle.std.proofs.Common.{◌+◌, ◌*◌, ◌^◌, ◌<◌, sym, refl, ◌
 use Rattle.terms.specs.Codes.{base, code}
 use Rattle.windows.specs.Values.{word_items}
 use Rattle.trees.specs.Planting.{NextWord, Underway}
-use Rattle.trees.specs.Trees.{tree_nodes}
+use Rattle.trees.specs.Trees.{At, tree_nodes}
 use Rattle.trees.proofs.Planting.{shorter_parent, next_behind, done_behind, all_behind}
 use Rattle.trees.proofs.Trees.{is_tree}
 use Rattle.trees.proofs.tree.TreeNode.extend.Goals as goal
@@ -27,7 +27,8 @@ write_if_tail_has_row-requires-clause-next g c =
     (next_behind (is_tree tree) c.args.self.now.before c.args.parent _ w.moves inv.0 w.code c.loop-x.x (omega arith) view inv.1)
 
 -- the word that was tried
-tried : (g : given.Over) (c : In_ok-write_if_tail_has_row g) → Underway c.args.self.now.tree.now.alphabet.moves c.args.self.now.tree.now.alphabet.order (tree_nodes c.args.self.now.tree.now) c.args.self.now.before (c.args.parent * base c.args.self.now.tree.now.alphabet.moves + (c.loop-x.x + 1)) (g.R.Rack.view c.write_if_tail_has_row.new.rack)
+tried : (g : given.Over) (c : In_ok-write_if_tail_has_row g) →
+    At c.args.self.now Underway (c.args.parent * base c.args.self.now.tree.now.alphabet.moves + (c.loop-x.x + 1)) (g.R.Rack.view c.write_if_tail_has_row.new.rack)
 tried g c =
     let tree = c.args.self.now.tree.now in
     let a = tree.alphabet in
@@ -40,4 +41,7 @@ pub loop-x-preserved : goal.loop-x-preserved
 loop-x-preserved g c = (c.loop-x.invariant.0, tried g (goal.at.loop-x-preserved g c).In_ok-write_if_tail_has_row, search rules)
 
 pub returns-in_ok-write_if_tail_has_row-clause-rows : goal.returns-in_ok-write_if_tail_has_row-clause-rows
-returns-in_ok-write_if_tail_has_row-clause-rows g c = all_behind (is_tree c.args.self.now.tree.now) c.args.self.now.before c.args.self.now.inside c.args.parent (c.loop-x.x + 1) _ (omega arith) (tried g (goal.at.returns-in_ok-write_if_tail_has_row-clause-rows g c).In_ok-write_if_tail_has_row)
+returns-in_ok-write_if_tail_has_row-clause-rows g c =
+    let node = c.args.self.now in
+    all_behind (is_tree node.tree.now) node.before node.inside c.args.parent (c.loop-x.x + 1) _ (omega arith)
+    (tried g (goal.at.returns-in_ok-write_if_tail_has_row-clause-rows g c).In_ok-write_if_tail_has_row)
