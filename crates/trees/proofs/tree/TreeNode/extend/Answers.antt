@@ -2,7 +2,7 @@ use Rattle.std.proofs.Common.{◌+◌, ◌*◌, ◌^◌, ◌<◌, sym, refl, ◌
 use Rattle.terms.specs.Codes.{base, code}
 use Rattle.windows.specs.Values.{word_items}
 use Rattle.trees.specs.Planting.{NextWord, Underway}
-use Rattle.trees.specs.Trees.{At, tree_nodes}
+use Rattle.trees.specs.Trees.{At}
 use Rattle.trees.proofs.Planting.{shorter_parent, next_behind, done_behind, all_behind}
 use Rattle.trees.proofs.Trees.{is_tree}
 use Rattle.trees.proofs.tree.TreeNode.extend.Goals as goal
@@ -18,24 +18,22 @@ loop-x-init g c =
 
 pub write_if_tail_has_row-requires-clause-next : goal.write_if_tail_has_row-requires-clause-next
 write_if_tail_has_row-requires-clause-next g c =
-    let tree = c.args.self.now.tree.now in
-    let a = tree.alphabet in
+    let node = c.args.self.now in
     let w = c.word-word.ensures in
     let inv = c.loop-x.invariant in
     let view = g.R.Rack.view c.loop-x.rack in
-    subst (λ u. NextWord a.moves a.order (tree_nodes tree) c.args.self.now.before u view) (sym (c.items.ensures ∙ rw c.unwrap-longer.ensures at c.pushed.ensures))
-    (next_behind (is_tree tree) c.args.self.now.before c.args.parent _ w.moves inv.0 w.code c.loop-x.x (omega arith) view inv.1)
+    subst (λ u. At node NextWord u view) (sym (c.items.ensures ∙ rw c.unwrap-longer.ensures at c.pushed.ensures))
+    (next_behind (is_tree node.tree.now) node.before c.args.parent _ w.moves inv.0 w.code c.loop-x.x (omega arith) view inv.1)
 
 -- the word that was tried
-tried : (g : given.Over) (c : In_ok-write_if_tail_has_row g) →
-    At c.args.self.now Underway (c.args.parent * base c.args.self.now.tree.now.alphabet.moves + (c.loop-x.x + 1)) (g.R.Rack.view c.write_if_tail_has_row.new.rack)
+tried : (g : given.Over) (c : In_ok-write_if_tail_has_row g)
+    → At c.args.self.now Underway (c.args.parent * base c.args.self.now.tree.now.alphabet.moves + (c.loop-x.x + 1)) (g.R.Rack.view c.write_if_tail_has_row.new.rack)
 tried g c =
-    let tree = c.args.self.now.tree.now in
-    let a = tree.alphabet in
+    let node = c.args.self.now in
     let w = c.word-word.ensures in
     let view = g.R.Rack.view c.write_if_tail_has_row.new.rack in
-    done_behind (is_tree tree) c.args.self.now.before c.args.parent _ w.moves c.loop-x.invariant.0 w.code c.loop-x.x (omega arith) view
-    (subst (λ u. Underway a.moves a.order (tree_nodes tree) c.args.self.now.before (code a.moves u + 1) view) (c.items.ensures ∙ rw c.unwrap-longer.ensures at c.pushed.ensures) c.in_ok-write_if_tail_has_row.ensures.rows)
+    done_behind (is_tree node.tree.now) node.before c.args.parent _ w.moves c.loop-x.invariant.0 w.code c.loop-x.x (omega arith) view
+    (subst (λ u. At node Underway (code node.tree.now.alphabet.moves u + 1) view) (c.items.ensures ∙ rw c.unwrap-longer.ensures at c.pushed.ensures) c.in_ok-write_if_tail_has_row.ensures.rows)
 
 pub loop-x-preserved : goal.loop-x-preserved
 loop-x-preserved g c = (c.loop-x.invariant.0, tried g (goal.at.loop-x-preserved g c).In_ok-write_if_tail_has_row, search rules)

@@ -4,5 +4,5 @@ use Rattle.trees.proofs.tree.TreeNode.write.Goals as goal
 
 pub write_row-requires : goal.write_row-requires
 write_row-requires g c =
-    let tree = c.args.self.now.tree.now in
-    next_empty (is_tree tree) c.args.self.now.before _ c.requires
+    let node = c.args.self.now in
+    next_empty (is_tree node.tree.now) node.before _ c.requires
