@@ -15,7 +15,7 @@ tree_nodes t = list_of t.nodes
 abbrev pub For {ℓ} : {X : Type ℓ} → Tree → (ℕ → ℕ → List Node → X) → X
 For tree P = P tree.alphabet.moves tree.alphabet.order (tree_nodes tree)
 
--- a statement that is also about how many nodes come before one, for a node of a tree
+-- a statement that is also about how many nodes come before one, for a node of the tree
 abbrev pub At {ℓ} : {X : Type ℓ} → TreeNode → (ℕ → ℕ → List Node → ℕ → X) → X
 At node P = For node.tree.now P node.before
 

@@ -1,8 +1,8 @@
 // Checking a table of number triples.
 ghost use Rattle.std.specs.Prelude.{◌≡◌, ◌≤◌, MatchResult, ◌≢◌};
+ghost use Rattle.tree_laws.specs.Routes.{Lower};
 ghost use Rattle.trees.specs.Fields.{column};
 ghost use Rattle.trees.specs.Tables.{Good, WrongField, WrongChild, TableRefused, node_of};
-ghost use Rattle.tree_laws.specs.Routes.{Lower};
 ghost use Rattle.trees.specs.Trees.{TreeRead, tree_nodes};
 
 use crate::raw::RawNode;

@@ -18,7 +18,7 @@ pub struct Tree {
     ghost proper: { Checked alphabet.moves (list_of nodes) },
 }
 
-// A node of a tree, and how many come before it.
+// A node of a tree, told by how many nodes come before it.
 #[derive(Clone, Copy)]
 pub(crate) struct TreeNode<'a> {
     pub(crate) tree: &'a Tree,
