@@ -138,7 +138,9 @@ module _ (n k : ℕ) (few : n ≤ 12) where
         subst (Standing t (m + 1) (v ++ (x ∷ []))) (none_longer n t wf (m + 1) (omega arith) inside v x 0 r h is refl) is
 
     -- no word with a code from c to below e is held: no word behind one of them is contained
-    pub progress_skip : (c e : ℕ) (f : ℕ → ℕ) → c ≤ e → ((u : List ℕ) → Moves n u → length u ≤ k → c ≤ code n u → code n u < e → f (row_key n k (m + 1) u) ≡ 0) → InProgress n k t m (c * base n + 1) f → InProgress n k t m (e * base n + 1) f
+    pub progress_skip : (c e : ℕ) (f : ℕ → ℕ) → c ≤ e
+        → ((u : List ℕ) → Moves n u → length u ≤ k → c ≤ code n u → code n u < e → f (row_key n k (m + 1) u) ≡ 0)
+        → InProgress n k t m (c * base n + 1) f → InProgress n k t m (e * base n + 1) f
     progress_skip c e f le free h = record {
       standings = h.standings;
       done = by_ends (λ u. Moves n u → length u ≤ k → code n u < e * base n + 1 → Standing t (m + 1) u (f (row_key n k (m + 1) u))) more (λ moves short l. h.done [] moves short (omega arith));
@@ -146,7 +148,10 @@ module _ (n k : ℕ) (few : n ≤ 12) where
       only = h.only;
     }
       where
-        more : (v : List ℕ) (x : ℕ) → (Moves n v → length v ≤ k → code n v < e * base n + 1 → Standing t (m + 1) v (f (row_key n k (m + 1) v))) → Moves n (v ++ (x ∷ [])) → length (v ++ (x ∷ [])) ≤ k → code n (v ++ (x ∷ [])) < e * base n + 1 → Standing t (m + 1) (v ++ (x ∷ [])) (f (row_key n k (m + 1) (v ++ (x ∷ []))))
+        more : (v : List ℕ) (x : ℕ)
+            → (Moves n v → length v ≤ k → code n v < e * base n + 1 → Standing t (m + 1) v (f (row_key n k (m + 1) v)))
+            → Moves n (v ++ (x ∷ [])) → length (v ++ (x ∷ [])) ≤ k → code n (v ++ (x ∷ [])) < e * base n + 1
+            → Standing t (m + 1) (v ++ (x ∷ [])) (f (row_key n k (m + 1) (v ++ (x ∷ []))))
         more v x before moves short l =
             let parts = all_before_last (Move n) v x moves in
             let is = code_of_push n k few v x parts.1 in

@@ -29,7 +29,14 @@ use Rattle.trees.proofs.Trees.{IsTree}
 use Rattle.trees.specs.Planting.{CodeOfMoves, Complete, Finished, Underway, NextWord}
 
 -- a write of one row more: what then holds, or that there are more rows than the room
-pub written_or_more : {X : Type 0} (n k : ℕ) (t : List Node) (After : View → Type 0) (key s : ℕ) (before after : View) → key < before.reach → before.number key ≡ 0 → (0 < s → HasRow n k t key) → ((i : ℕ) → 0 < before.number i → HasRow n k t i) → After (after_write before key s) → (r : Result X Refusal) → (key < before.reach → (LacksRoom before key s → ⊥) → is_ok r ≡ true) → MatchResult r (λ _. after ≡ after_write before key s) (λ _. after ≡ before) → MatchResult r (λ _. After after) (λ _. MoreRows n k t after.room)
+pub written_or_more : {X : Type 0} (n k : ℕ) (t : List Node) (After : View → Type 0) (key s : ℕ) (before after : View)
+    → key < before.reach → before.number key ≡ 0
+    → (0 < s → HasRow n k t key) → ((i : ℕ) → 0 < before.number i → HasRow n k t i)
+    → After (after_write before key s)
+    → (r : Result X Refusal)
+    → (key < before.reach → (LacksRoom before key s → ⊥) → is_ok r ≡ true)
+    → MatchResult r (λ _. after ≡ after_write before key s) (λ _. after ≡ before)
+    → MatchResult r (λ _. After after) (λ _. MoreRows n k t after.room)
 written_or_more n k t After key s before after reached free row rows holds (Ok y) accepted wrote = subst After (sym wrote) holds
 written_or_more n k t After key s before after reached free row rows holds (Err e) accepted same =
     subst (λ (v : View). MoreRows n k t v.room) (sym same)
@@ -100,7 +107,14 @@ module _ {n k : ℕ} {t : List Node} (tree : IsTree n k t) where
   stands_by_rows m f x u is h moves short = computed_laws_lem n k t tree.formed (m + 1) x is (rows_of n k f (first_child x)) (rows_of n k f (second_child x)) (children_known m f h x (subst (Proper n (m + 1)) is.kind (tree.formed (m + 1) is.from_one is.inside))) u moves short
 
   -- the write of the row of the next word
-  pub row_written : {X : Type 0} (m : ℕ) (inside : m < length t) (u : List ℕ) (key s : ℕ) → key ≡ row_key n k (m + 1) u → (before after : View) → NextWord n k t m u before → Standing t (m + 1) u s → (r : Result X Refusal) → (key < before.reach → (LacksRoom before key s → ⊥) → is_ok r ≡ true) → MatchResult r (λ _. after ≡ after_write before key s) (λ _. after ≡ before) → MatchResult r (λ _. Underway n k t m (code n u + 1) after) (λ _. MoreRows n k t after.room)
+  pub row_written : {X : Type 0} (m : ℕ) (inside : m < length t) (u : List ℕ) (key s : ℕ)
+      → key ≡ row_key n k (m + 1) u
+      → (before after : View) → NextWord n k t m u before
+      → Standing t (m + 1) u s
+      → (r : Result X Refusal)
+      → (key < before.reach → (LacksRoom before key s → ⊥) → is_ok r ≡ true)
+      → MatchResult r (λ _. after ≡ after_write before key s) (λ _. after ≡ before)
+      → MatchResult r (λ _. Underway n k t m (code n u + 1) after) (λ _. MoreRows n k t after.room)
   row_written m inside u key s is_key before after next stands r accepted wrote =
       let rows = next.underway.rows in
       let p = base n ^ k in
@@ -155,7 +169,8 @@ module _ {n k : ℕ} {t : List Node} (tree : IsTree n k t) where
   pub next_empty : (m : ℕ) (v : View) → Finished n k t m v → NextWord n k t m [] v
   next_empty m v h = record { moves = All-nil (Move n); short = omega arith; underway = record { rows = progress_none n k tree.few t m v.number h.rows; reaches = h.reaches } }
 
-  -- the walk over the rows of the node after the first m, which begin at start: where those of fewer than k moves end is the end
+  -- the walk over the rows of the node after the first m, which begin at start: it ends where those of fewer than k
+  -- moves end
   module _ (m : ℕ) (inside : m < length t) (start end from : ℕ) (start_is : start ≡ (m + 1) * base n ^ k) (end_is : end ≡ start + base n ^ k / base n) (v : View) (h : Underway n k t m (from * base n + 1) v) where
     -- the end leaves out the last digit
     top : base n ^ k / base n * base n ≡ base n ^ k

@@ -54,7 +54,13 @@ module _ {n k : ℕ} {t : List Node} (tree : IsTree n k t) where
     }
 
     -- the write of the row of a playable one
-    pub window_written : {X : Type 0} (key : ℕ) → key ≡ code n (with_marks i u) → Fits k i (length u) → has s (2 ^ i) ≡ true → (before after : View) → NextWindow n k t u s i before → (r : Result X Refusal) → (key < before.reach → (LacksRoom before key 1 → ⊥) → is_ok r ≡ true) → MatchResult r (λ _. after ≡ after_write before key 1) (λ _. after ≡ before) → MatchResult r (λ _. Windows n k t (turn n i u + 1) after) (λ _. MoreRows n k t after.room)
+    pub window_written : {X : Type 0} (key : ℕ)
+        → key ≡ code n (with_marks i u) → Fits k i (length u) → has s (2 ^ i) ≡ true
+        → (before after : View) → NextWindow n k t u s i before
+        → (r : Result X Refusal)
+        → (key < before.reach → (LacksRoom before key 1 → ⊥) → is_ok r ≡ true)
+        → MatchResult r (λ _. after ≡ after_write before key 1) (λ _. after ≡ before)
+        → MatchResult r (λ _. Windows n k t (turn n i u + 1) after) (λ _. MoreRows n k t after.room)
     window_written key is_key fits says before after next r accepted wrote =
         let h = next.windows.rows in
         let (low, none) = windowed_before n k t tree.few tree.wide tree.formed tree.some h i u four next.moves refl fits in

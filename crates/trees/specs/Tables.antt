@@ -32,6 +32,10 @@ WrongField n v x f =
     ⊎ (((f ≡ 3) × (x.kind ≤ 5) × (GoodFirst n v x.kind x.a → ⊥))
     ⊎ ((f ≡ 4) × (x.kind ≤ 5) × GoodFirst n v x.kind x.a × (GoodSecond v x.kind x.b → ⊥)))
 
+-- f is the lower of the two fields that names no node before node v
+abbrev pub WrongChild : ℕ → RawNode → ℕ → Type 0
+WrongChild v x f = ((f ≡ 3) × (Lower v x.a → ⊥)) ⊎ ((f ≡ 4) × Lower v x.a × (Lower v x.b → ⊥))
+
 -- the node that a good triple stands for
 abbrev pub node_of : RawNode → Node
 node_of x =
@@ -40,6 +44,15 @@ node_of x =
     else (if x.kind == 2 then Choice x.a x.b
     else (if x.kind == 3 then Sequence x.a x.b
     else (if x.kind == 4 then Loop x.a x.b else Parallel x.a x.b))))
+
+-- the triple that stands for a node
+abbrev pub raw_of : Node → RawNode
+raw_of Skip = record { kind = 0; a = 0; b = 0 }
+raw_of (Single x) = record { kind = 1; a = x; b = 0 }
+raw_of (Choice a b) = record { kind = 2; a = a; b = b }
+raw_of (Sequence a b) = record { kind = 3; a = a; b = b }
+raw_of (Loop a b) = record { kind = 4; a = a; b = b }
+raw_of (Parallel a b) = record { kind = 5; a = a; b = b }
 
 -- the first m nodes of the table are good
 abbrev pub AllGood : ℕ → List RawNode → ℕ → Type 0
@@ -56,7 +69,8 @@ pub record FirstWrongNode (n : ℕ) (table : List RawNode) (v f : ℕ) : Type 0 
   pub wrong : (d : RawNode) → WrongField n v (slice_index_or table (v - 1) d) f
   pub good_before : AllGood n table (v - 1)
 
--- 11 where there is no node or there are more than 32, otherwise 12 with the first wrong node and its lowest wrong field
+-- 11 where there is no node or there are more than 32, otherwise 12 with the first wrong node and its lowest wrong
+-- field
 abbrev pub TableRefused : ℕ → List RawNode → Refusal → Type 0
 TableRefused n table e =
     (Says e 11 [] × (NodeCountAllowed table → ⊥))

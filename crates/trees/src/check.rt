@@ -1,7 +1,8 @@
 // Checking a table of number triples.
 ghost use Rattle.std.specs.Prelude.{◌≡◌, ◌≤◌, MatchResult, ◌≢◌};
+ghost use Rattle.tree_laws.specs.Routes.{Lower};
 ghost use Rattle.trees.specs.Fields.{column};
-ghost use Rattle.trees.specs.Tables.{Good, WrongField, TableRefused, node_of};
+ghost use Rattle.trees.specs.Tables.{Good, WrongField, WrongChild, TableRefused, node_of};
 ghost use Rattle.trees.specs.Trees.{TreeRead, tree_nodes};
 
 use crate::raw::RawNode;
@@ -44,43 +45,58 @@ fn check_range(number: u16, most: u8, field: Field) -> Result<u8, Field>
     ensures { MatchResult result (λ x. (x ≡ number) × ((1 ≤ number) × (number ≤ most))) (λ f. (f ≡ field) × (((1 ≤ number) × (number ≤ most)) → ⊥)) }
 {
     match u8::try_from(number) {
-        Ok(x) if x >= 1 && x <= most => Ok(x),
+        Ok(x) if (1..=most).contains(&x) => Ok(x),
         _ => Err(field),
     }
 }
 
-// Node `v`, or its lowest wrong field.
-fn check_node(n: u8, v: u8, raw: RawNode) -> Result<Node, Field>
-    ensures { MatchResult result (λ x. Good n v raw × (x ≡ node_of raw)) (λ f. WrongField n v raw (column f)) }
+// The children of a node, both of lower number, or the lower of the fields that name none.
+fn check_children(node: u8, raw: RawNode) -> Result<(u8, u8), Field>
+    ensures { MatchResult result (λ p. (p ≡ (raw.a, raw.b)) × Lower node raw.a × Lower node raw.b) (λ f. WrongChild node raw (column f)) }
 {
-    match raw.kind {
+    let most = node.saturating_sub(1);
+    let a = check_range(raw.a, most, Field::First)?;
+    let b = check_range(raw.b, most, Field::Second)?;
+    Ok((a, b))
+}
+
+// The node with this number, or its lowest wrong field.
+fn check_node(moves: u8, node: u8, raw: RawNode) -> Result<Node, Field>
+    ensures { MatchResult result (λ x. Good moves node raw × (x ≡ node_of raw)) (λ f. WrongField moves node raw (column f)) }
+{
+    Ok(match raw.kind {
         0 => {
             check_zero(raw.a, Field::First)?;
             check_zero(raw.b, Field::Second)?;
-            Ok(Node::Skip)
+            Node::Skip
         }
         1 => {
-            let m = check_range(raw.a, n, Field::First)?;
+            let x = check_range(raw.a, moves, Field::First)?;
             check_zero(raw.b, Field::Second)?;
-            Ok(Node::Move(m))
+            Node::Move(x)
         }
-        2..=5 => {
-            let most = v.saturating_sub(1);
-            let a = check_range(raw.a, most, Field::First)?;
-            let b = check_range(raw.b, most, Field::Second)?;
-            Ok(match raw.kind {
-                2 => Node::Choice(a, b),
-                3 => Node::Sequence(a, b),
-                4 => Node::Loop(a, b),
-                _ => Node::Parallel(a, b),
-            })
+        2 => {
+            let (a, b) = check_children(node, raw)?;
+            Node::Choice(a, b)
         }
-        _ => Err(Field::Kind),
-    }
+        3 => {
+            let (a, b) = check_children(node, raw)?;
+            Node::Sequence(a, b)
+        }
+        4 => {
+            let (a, b) = check_children(node, raw)?;
+            Node::Loop(a, b)
+        }
+        5 => {
+            let (a, b) = check_children(node, raw)?;
+            Node::Parallel(a, b)
+        }
+        _ => return Err(Field::Kind),
+    })
 }
 
 impl Tree {
-    // The tree of this table.
+    /// The tree of this table.
     pub fn new(alphabet: Alphabet, table: &[RawNode]) -> Result<Tree, Refusal>
         ensures { MatchResult result (TreeRead alphabet table.now) (TableRefused alphabet.moves table.now) }
     {
@@ -102,7 +118,7 @@ impl Tree {
         Ok(Tree { alphabet, nodes })
     }
 
-    // The nodes, the root last.
+    /// The nodes, the root last.
     pub fn nodes(&self) -> &[Node]
         ensures { result.now ≡ tree_nodes self.now }
     {

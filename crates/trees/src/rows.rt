@@ -10,7 +10,7 @@ use racks::Rack;
 use terms::Refusal;
 
 impl Tree {
-    // Puts all rows into an empty rack. The answer is by how many keys the windows' rows are more than the nodes'.
+    // Puts all rows into an empty rack, and answers how many more keys are held after the windows' rows than before.
     fn put_rows<R: Rack>(&self, rack: &mut R) -> Result<u32, Refusal>
         requires { For self.now Finished 0 (R.view rack.old) }
         ensures rows { EndsWith self.now (For self.now Complete) (R.view rack.new) result }
@@ -24,14 +24,14 @@ impl Tree {
         Ok(all.saturating_sub(nodes))
     }
 
-    // The keys of the tree's rows lie below this one.
+    /// The keys of the tree's rows lie below this one.
     pub fn key_limit(&self) -> u32
         ensures { result ≡ For self.now key_limit }
     {
         self.start(self.nodes().len() + 1)
     }
 
-    // Puts the tree's rows into the rack and answers how many windows are playable.
+    /// Puts the tree's rows into the rack and answers how many windows are playable.
     pub fn write_rows<R: Rack>(&self, rack: &mut R) -> Result<u32, Refusal>
         ensures { For self.now Outcome (R.view rack.old) (R.view rack.new) result }
     {

@@ -76,7 +76,8 @@ impl Tree {
         }
     }
 
-    // Puts in the row of the window of this word and these marks, if the word's standing at the root says that it is playable.
+    // Puts in the row of the window of this word and these marks, if the word's standing at the root says that the
+    // window is playable.
     fn put_window<R: Rack>(
         &self,
         rack: &mut R,
