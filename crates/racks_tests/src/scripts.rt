@@ -25,8 +25,8 @@ const SCRIPT: [(u32, u32); 14] = [
 ];
 
 fn same_as<R: Rack>(rt: &impl Abort, rack: &mut R, model: &Model) {
-    for key in 0..8u32 {
-        assert_eq!(rt; rack.read(key), model.numbers[key as usize]);
+    for (key, number) in (0..8).zip(model.numbers) {
+        assert_eq!(rt; rack.read(key), number);
         assert_eq!(rt; rack.next(key), model.next(key));
     }
     assert_eq!(rt; rack.next(8), None);
