@@ -4,6 +4,8 @@
 #[cfg(test)]
 mod edges;
 #[cfg(test)]
+mod front;
+#[cfg(test)]
 mod model;
 #[cfg(test)]
 mod scripts;

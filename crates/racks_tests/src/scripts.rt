@@ -1,4 +1,5 @@
 // Writes and removals in turn, at any rack of eight places, beside a plain model.
+use crate::front::Front;
 use crate::model::Model;
 use list_rack::{ListRack, Row};
 use racks::{Rack, total};
@@ -71,5 +72,23 @@ fn lent_rack_follows_script(rt: HostRuntime) -> Result<(), Fail> {
     let mut lent = &mut rack;
     lent.write(3, 5)?;
     assert_eq!(rt; rack.read(3), 5);
+    Ok(())
+}
+
+// A rack in front of another is one too, and the rack below holds what was written through it.
+#[test]
+fn front_follows_script(rt: HostRuntime) -> Result<(), Fail> {
+    let mut cells = [7u32; 8];
+    follows_script(&rt, &mut Front::new(TableRack::new(&mut cells)))?;
+    let mut rows = [Row { key: 9, number: 9 }; 8];
+    let mut rack = ListRack::new(&mut rows);
+    follows_script(&rt, &mut Front::new(&mut rack))?;
+    let mut front = Front::new(&mut rack);
+    front.write(3, 5)?;
+    assert_eq!(rt; front.read(3), 5);
+    assert_eq!(rt; front.read(3), 5);
+    front.write(3, 6)?;
+    assert_eq!(rt; front.read(3), 6);
+    assert_eq!(rt; rack.read(3), 6);
     Ok(())
 }
