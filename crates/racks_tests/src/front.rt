@@ -7,20 +7,13 @@ use terms::Refusal;
 #[derive(Drop)]
 pub(crate) struct Front<R: Rack> {
     below: R,
-    key: u32,
-    number: u32,
-    known: bool,
-    ghost right: { Right known key number (R.view below).number },
+    last: Option<(u32, u32)>,
+    ghost right: { Right last (R.view below).number },
 }
 
 impl<R: Rack> Front<R> {
     pub(crate) fn new(below: R) -> Front<R> {
-        Front {
-            below,
-            key: 0,
-            number: 0,
-            known: false,
-        }
+        Front { below, last: None }
     }
 }
 
@@ -42,13 +35,13 @@ impl<R: Rack> Rack for Front<R> {
     }
 
     fn read(&mut self, key: u32) -> u32 {
-        if self.known && self.key == key {
-            return self.number;
+        if let Some((last, number)) = self.last {
+            if last == key {
+                return number;
+            }
         }
         let number = self.below.read(key);
-        self.key = key;
-        self.number = number;
-        self.known = true;
+        self.last = Some((key, number));
         number
     }
 
@@ -57,12 +50,12 @@ impl<R: Rack> Rack for Front<R> {
     }
 
     fn write(&mut self, key: u32, number: u32) -> Result<(), Refusal> {
-        self.known = false;
+        self.last = None;
         self.below.write(key, number)
     }
 
     fn empty(&mut self) {
-        self.known = false;
+        self.last = None;
         self.below.empty();
     }
 }
