@@ -1,6 +1,7 @@
 // What a lent slice holds once the rack over it is gone.
-ghost use Rattle.std.specs.Prelude.{MatchResult};
-ghost use Rattle.racks.specs.Views.{written};
+ghost use Rattle.std.specs.Prelude.{◌≡◌, ◌<◌, ◌≤◌, length, true, is_ok, Err, MatchResult};
+ghost use Rattle.terms.specs.declared.Refusal.TheVariants.{BeyondReach};
+ghost use Rattle.racks.specs.Views.{places_used, written};
 ghost use Rattle.racks_tests.specs.Lends.{CellsLeft, RowsLeft};
 
 use list_rack::{ListRack, Row};
@@ -10,7 +11,9 @@ use terms::Refusal;
 
 /// Writes one number to a table rack over the slice.
 pub fn write_table(cells: &mut [u32], key: u32, number: u32) -> Result<(), Refusal>
-    ensures { MatchResult result (λ _. CellsLeft cells.old cells.new (written (λ _. 0) key number)) (λ _. CellsLeft cells.old cells.new (λ _. 0)) }
+    ensures refused { places_used (length cells.old) ≤ key → result ≡ Err BeyondReach }
+    ensures accepted { key < places_used (length cells.old) → is_ok result ≡ true }
+    ensures left { MatchResult result (λ _. CellsLeft cells.old cells.new (written (λ _. 0) key number)) (λ _. CellsLeft cells.old cells.new (λ _. 0)) }
 {
     let mut rack = TableRack::new(cells);
     rack.write(key, number)
