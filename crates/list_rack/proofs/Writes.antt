@@ -21,7 +21,15 @@ pub record Edited (rows : List Row) (n : ℕ) (after : List Row) (m key v : ℕ)
   pub view : (name : GName) → list_view name after m ≡ after_write (list_view name rows n) key v
 
 module _ (rows after held : List Row) (n m key v : ℕ) where
-  edited : take m after ≡ held → length after ≡ length rows → drop (places_used (length rows)) after ≡ drop (places_used (length rows)) rows → m ≤ places_used (length rows) → Ascending row_key held → All CanHold held → ((k : ℕ) → number_in held k ≡ written (number_in (take n rows)) key v k) → Edited rows n after m key v
+  edited :
+      take m after ≡ held
+      → length after ≡ length rows
+      → drop (places_used (length rows)) after ≡ drop (places_used (length rows)) rows
+      → m ≤ places_used (length rows)
+      → Ascending row_key held
+      → All CanHold held
+      → ((k : ℕ) → number_in held k ≡ written (number_in (take n rows)) key v k)
+      → Edited rows n after m key v
   edited is even beyond within up each numbers =
       record {
         holds = record {
@@ -36,7 +44,13 @@ module _ (rows : List Row) (n place : ℕ) (h : Holds rows n) where
   size : length (take n rows) ≡ n
   size = length-take-le n rows (omega (arith, h.within))
 
-  pub edited_insert : (part : List Row) (row : Row) → part ≡ insert (take (length (take (n + 1) rows) - 1) (take (n + 1) rows)) place row → n < places_used (length rows) → BelongsAt row_key (take n rows) row.key place → CanHold row → Edited rows n (part ++ drop (n + 1) rows) (n + 1) row.key row.number
+  pub edited_insert :
+      (part : List Row) (row : Row)
+      → part ≡ insert (take (length (take (n + 1) rows) - 1) (take (n + 1) rows)) place row
+      → n < places_used (length rows)
+      → BelongsAt row_key (take n rows) row.key place
+      → CanHold row
+      → Edited rows n (part ++ drop (n + 1) rows) (n + 1) row.key row.number
   edited_insert part row inserted roomy belongs fits =
       let count : length (take (n + 1) rows) - 1 ≡ n = omega (arith, length-take-le (n + 1) rows (omega arith)) in
       let is : part ≡ insert (take n rows) place row = rw (count, take-take n (n + 1) rows (omega arith)) at inserted in
@@ -50,7 +64,11 @@ module _ (rows : List Row) (n place : ℕ) (h : Holds rows n) where
       (grind (arith, elements, h.each))
       (number_inserted (take n rows) place row belongs)
 
-  pub edited_set : (row : Row) → StandsAt row_key (take n rows) row.key place → CanHold row → Edited rows n (set rows place row) n row.key row.number
+  pub edited_set :
+      (row : Row)
+      → StandsAt row_key (take n rows) row.key place
+      → CanHold row
+      → Edited rows n (set rows place row) n row.key row.number
   edited_set row stands fits =
       let inside : place < n = omega (arith, size, stands.inside) in
       edited rows (set rows place row) (set (take n rows) place row) n n row.key row.number
@@ -62,7 +80,11 @@ module _ (rows : List Row) (n place : ℕ) (h : Holds rows n) where
       (grind (arith, elements, h.each))
       (number_set (take n rows) h.ascending row.key place stands row refl)
 
-  pub edited_remove : (part : List Row) (row : Row) (key : ℕ) → part ≡ remove (take n rows) place ++ row ∷ [] → StandsAt row_key (take n rows) key place → Edited rows n (part ++ drop n rows) (n - 1) key 0
+  pub edited_remove :
+      (part : List Row) (row : Row) (key : ℕ)
+      → part ≡ remove (take n rows) place ++ row ∷ []
+      → StandsAt row_key (take n rows) key place
+      → Edited rows n (part ++ drop n rows) (n - 1) key 0
   edited_remove part row key is stands =
       let fewer : length (remove (take n rows) place) + 1 ≡ n = omega (arith, length-remove (take n rows) place stands.inside, size) in
       let long : length part ≡ n = omega (arith, fewer, ap length is, length_push (remove (take n rows) place) row) in

@@ -6,11 +6,12 @@ ghost use Rattle.std.specs.List.{insert, remove};
 ghost use Rattle.racks.specs.Views.{held_count, places_used};
 ghost use Rattle.list_rack.specs.Rows.{Holds, Placed, row_key, no_row, number_in, list_reach, list_view, list_bounded, new_list};
 
-use racks::{MOST_PLACES, Rack};
+use racks::{Rack, places_used};
 use search::{Keyed, find};
 use terms::Refusal;
 
-#[derive(Clone, Copy, PartialEq, Eq, Debug)]
+/// A key and the number at it.
+#[derive(Clone, Copy, PartialEq, Eq, Debug, Default)]
 pub struct Row {
     pub key: u32,
     pub number: u32,
@@ -24,16 +25,16 @@ impl Keyed for Row {
     }
 }
 
-// The first `len` rows are held.
+/// The first `len` rows are held.
 #[derive(Drop)]
 pub struct ListRack<'a> {
     rows: &'a mut [Row],
-    len: u32,
+    len: usize,
     ghost holds: { Holds rows.now len },
 }
 
 impl<'a> ListRack<'a> {
-    // Empty, since no row is held; it writes to none of the rows.
+    /// Empty, since no row is held; it writes to none of the rows.
     pub fn new(rows: &'a mut [Row]) -> ListRack<'a>
         ensures fresh { list_view result.rows.ghost_name result.rows.now result.len ≡ new_list rows.entry.ghost_name rows.old }
         ensures slice { result.rows.ghost_name ≡ rows.entry.ghost_name }
@@ -42,16 +43,15 @@ impl<'a> ListRack<'a> {
         ListRack { rows, len: 0 }
     }
 
-    // Where the row of the key stands, or where one would belong, and what that says of the numbers.
+    // Where the row of the key stands, or where one would belong.
     fn place(&self, key: u32) -> Result<usize, usize>
         ensures { Placed self.now.rows.now self.now.len key result }
     {
-        let len = self.len as usize;
         // Keys are mostly written in ascending order.
-        if len == 0 || self.rows[len - 1].key < key {
-            return Err(len);
+        if self.len == 0 || self.rows[self.len - 1].key < key {
+            return Err(self.len);
         }
-        find(&self.rows[..len], u64::from(key))
+        find(&self.rows[..self.len], u64::from(key))
     }
 
     // The held row at the place.
@@ -67,14 +67,14 @@ impl<'a> ListRack<'a> {
         ensures counted { result ≡ held_count (number_in (take self.now.len self.now.rows.now)) list_reach }
         ensures len { result ≡ self.now.len }
     {
-        self.len
+        self.len as u32
     }
 
     // How many rows can be held: at most the first 2^26 of the slice.
     fn places(&self) -> u32
         ensures { result ≡ places_used (length self.now.rows.now) }
     {
-        self.rows.len().min(MOST_PLACES) as u32
+        places_used(self.rows.len())
     }
 }
 
@@ -137,7 +137,7 @@ impl Rack for ListRack<'_> {
 
     fn next(&mut self, from: u32) -> Option<u32> {
         let (Ok(place) | Err(place)) = self.place(from);
-        if place < self.len as usize {
+        if place < self.len {
             Some(self.row(place).key)
         } else {
             None
@@ -151,7 +151,7 @@ impl Rack for ListRack<'_> {
         let row = Row { key, number };
         match self.place(key) {
             Ok(place) if number == 0 => {
-                remove(&mut self.rows[..self.len as usize], place);
+                remove(&mut self.rows[..self.len], place);
                 self.len -= 1;
             }
             Ok(place) => replace(self.rows, place, row),
@@ -159,7 +159,7 @@ impl Rack for ListRack<'_> {
                 if self.held_rows() == self.places() {
                     return Err(Refusal::NoRoom);
                 }
-                insert(&mut self.rows[..=self.len as usize], place, row);
+                insert(&mut self.rows[..=self.len], place, row);
                 self.len += 1;
             }
             Err(_) => {}

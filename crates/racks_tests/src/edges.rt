@@ -1,191 +1,69 @@
 // Refusals, full racks, the first and the last keys, and empty slices.
 use list_rack::{ListRack, Row};
 use racks::Rack;
+use std::process::Abort;
 use table_rack::TableRack;
-use terms::Refusal::{self, BeyondReach, NoRoom};
+use terms::Refusal::{BeyondReach, NoRoom};
 
-// A question or a write, and the answer to it.
-#[derive(Clone, Copy)]
-enum Step {
-    Reach(u32),
-    Room(u32),
-    Held(u32),
-    Read {
-        key: u32,
-        number: u32,
-    },
-    Next {
-        from: u32,
-        key: Option<u32>,
-    },
-    Write {
-        key: u32,
-        number: u32,
-        answer: Result<(), Refusal>,
-    },
+fn table_of_three<R: Rack>(rt: &impl Abort, rack: &mut R) {
+    assert_eq!(rt; rack.reach(), 3);
+    assert_eq!(rt; rack.room(), 3);
+    assert_eq!(rt; rack.held(), 0);
+    assert_eq!(rt; rack.write(2, 8), Ok(()));
+    assert_eq!(rt; rack.write(3, 8), Err(BeyondReach));
+    assert_eq!(rt; rack.write(3, 0), Err(BeyondReach));
+    assert_eq!(rt; rack.write(1, 0), Ok(()));
+    assert_eq!(rt; rack.write(0, 4), Ok(()));
+    assert_eq!(rt; rack.next(1), Some(2));
+    assert_eq!(rt; rack.next(3), None);
+    assert_eq!(rt; rack.read(4294967295), 0);
+    assert_eq!(rt; rack.held(), 2);
 }
 
-fn answers<R: Rack>(rack: &mut R, step: Step) -> bool {
-    match step {
-        Step::Reach(reach) => rack.reach() == reach,
-        Step::Room(room) => rack.room() == room,
-        Step::Held(held) => rack.held() == held,
-        Step::Read { key, number } => rack.read(key) == number,
-        Step::Next { from, key } => rack.next(from) == key,
-        Step::Write {
-            key,
-            number,
-            answer,
-        } => rack.write(key, number) == answer,
-    }
+fn list_of_two<R: Rack>(rt: &impl Abort, rack: &mut R) {
+    assert_eq!(rt; rack.reach(), 4294967295);
+    assert_eq!(rt; rack.room(), 2);
+    assert_eq!(rt; rack.write(4294967295, 1), Err(BeyondReach));
+    assert_eq!(rt; rack.write(4294967294, 1), Ok(()));
+    assert_eq!(rt; rack.write(0, 2), Ok(()));
+    assert_eq!(rt; rack.write(9, 3), Err(NoRoom));
+    assert_eq!(rt; rack.write(9, 0), Ok(()));
+    assert_eq!(rt; rack.write(0, 5), Ok(()));
+    assert_eq!(rt; rack.next(0), Some(0));
+    assert_eq!(rt; rack.next(1), Some(4294967294));
+    assert_eq!(rt; rack.next(4294967295), None);
+    assert_eq!(rt; rack.write(4294967294, 0), Ok(()));
+    assert_eq!(rt; rack.write(9, 3), Ok(()));
+    assert_eq!(rt; rack.held(), 2);
 }
 
-// How many steps come out right before the first that does not.
-fn right_steps<R: Rack>(rack: &mut R, steps: &[Step]) -> usize {
-    steps
-        .iter()
-        .take_while(|step| answers(rack, **step))
-        .count()
+fn empty_table<R: Rack>(rt: &impl Abort, rack: &mut R) {
+    assert_eq!(rt; rack.reach(), 0);
+    assert_eq!(rt; rack.room(), 0);
+    assert_eq!(rt; rack.write(0, 1), Err(BeyondReach));
+    assert_eq!(rt; rack.next(0), None);
 }
 
-const TABLE_OF_THREE: [Step; 12] = [
-    Step::Reach(3),
-    Step::Room(3),
-    Step::Held(0),
-    Step::Write {
-        key: 2,
-        number: 8,
-        answer: Ok(()),
-    },
-    Step::Write {
-        key: 3,
-        number: 8,
-        answer: Err(BeyondReach),
-    },
-    Step::Write {
-        key: 3,
-        number: 0,
-        answer: Err(BeyondReach),
-    },
-    Step::Write {
-        key: 1,
-        number: 0,
-        answer: Ok(()),
-    },
-    Step::Write {
-        key: 0,
-        number: 4,
-        answer: Ok(()),
-    },
-    Step::Next {
-        from: 1,
-        key: Some(2),
-    },
-    Step::Next { from: 3, key: None },
-    Step::Read {
-        key: 4294967295,
-        number: 0,
-    },
-    Step::Held(2),
-];
-
-const LIST_OF_TWO: [Step; 14] = [
-    Step::Reach(4294967295),
-    Step::Room(2),
-    Step::Write {
-        key: 4294967295,
-        number: 1,
-        answer: Err(BeyondReach),
-    },
-    Step::Write {
-        key: 4294967294,
-        number: 1,
-        answer: Ok(()),
-    },
-    Step::Write {
-        key: 0,
-        number: 2,
-        answer: Ok(()),
-    },
-    Step::Write {
-        key: 9,
-        number: 3,
-        answer: Err(NoRoom),
-    },
-    Step::Write {
-        key: 9,
-        number: 0,
-        answer: Ok(()),
-    },
-    Step::Write {
-        key: 0,
-        number: 5,
-        answer: Ok(()),
-    },
-    Step::Next {
-        from: 0,
-        key: Some(0),
-    },
-    Step::Next {
-        from: 1,
-        key: Some(4294967294),
-    },
-    Step::Next {
-        from: 4294967295,
-        key: None,
-    },
-    Step::Write {
-        key: 4294967294,
-        number: 0,
-        answer: Ok(()),
-    },
-    Step::Write {
-        key: 9,
-        number: 3,
-        answer: Ok(()),
-    },
-    Step::Held(2),
-];
-
-const EMPTY_TABLE: [Step; 4] = [
-    Step::Reach(0),
-    Step::Room(0),
-    Step::Write {
-        key: 0,
-        number: 1,
-        answer: Err(BeyondReach),
-    },
-    Step::Next { from: 0, key: None },
-];
-
-const EMPTY_LIST: [Step; 4] = [
-    Step::Room(0),
-    Step::Write {
-        key: 0,
-        number: 1,
-        answer: Err(NoRoom),
-    },
-    Step::Write {
-        key: 0,
-        number: 0,
-        answer: Ok(()),
-    },
-    Step::Held(0),
-];
+fn empty_list<R: Rack>(rt: &impl Abort, rack: &mut R) {
+    assert_eq!(rt; rack.room(), 0);
+    assert_eq!(rt; rack.write(0, 1), Err(NoRoom));
+    assert_eq!(rt; rack.write(0, 0), Ok(()));
+    assert_eq!(rt; rack.held(), 0);
+}
 
 #[test]
 fn table_edges(rt: HostRuntime) {
     let mut cells = [1u32, 2, 3];
     let mut rack = TableRack::new(&mut cells);
-    assert_eq!(rt; right_steps(&mut rack, &TABLE_OF_THREE), 12);
+    table_of_three(&rt, &mut rack);
     assert_eq!(rt; cells, [4, 0, 8]);
 }
 
 #[test]
 fn list_edges(rt: HostRuntime) {
-    let mut rows = [Row { key: 0, number: 0 }; 2];
+    let mut rows = [Row::default(); 2];
     let mut rack = ListRack::new(&mut rows);
-    assert_eq!(rt; right_steps(&mut rack, &LIST_OF_TWO), 14);
+    list_of_two(&rt, &mut rack);
     assert_eq!(rt;
         rows,
         [Row { key: 0, number: 5 }, Row { key: 9, number: 3 }]
@@ -196,8 +74,8 @@ fn list_edges(rt: HostRuntime) {
 fn empty_slices(rt: HostRuntime) {
     let mut cells = [0u32; 0];
     let mut table = TableRack::new(&mut cells);
-    assert_eq!(rt; right_steps(&mut table, &EMPTY_TABLE), 4);
-    let mut rows = [Row { key: 0, number: 0 }; 0];
+    empty_table(&rt, &mut table);
+    let mut rows = [Row::default(); 0];
     let mut list = ListRack::new(&mut rows);
-    assert_eq!(rt; right_steps(&mut list, &EMPTY_LIST), 4);
+    empty_list(&rt, &mut list);
 }

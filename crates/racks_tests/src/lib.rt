@@ -4,8 +4,13 @@
 #[cfg(test)]
 mod edges;
 #[cfg(test)]
+mod front;
+mod lends;
+#[cfg(test)]
 mod model;
 #[cfg(test)]
 mod scripts;
 #[cfg(test)]
 mod searches;
+
+pub use lends::{write_list, write_table};

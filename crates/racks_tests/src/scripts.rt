@@ -1,4 +1,5 @@
 // Writes and removals in turn, at any rack of eight places, beside a plain model.
+use crate::front::Front;
 use crate::model::Model;
 use list_rack::{ListRack, Row};
 use racks::{Rack, total};
@@ -25,8 +26,8 @@ const SCRIPT: [(u32, u32); 14] = [
 ];
 
 fn same_as<R: Rack>(rt: &impl Abort, rack: &mut R, model: &Model) {
-    for key in 0..8u32 {
-        assert_eq!(rt; rack.read(key), model.numbers[key as usize]);
+    for (key, number) in (0..8).zip(model.numbers) {
+        assert_eq!(rt; rack.read(key), number);
         assert_eq!(rt; rack.next(key), model.next(key));
     }
     assert_eq!(rt; rack.next(8), None);
@@ -71,5 +72,23 @@ fn lent_rack_follows_script(rt: HostRuntime) -> Result<(), Fail> {
     let mut lent = &mut rack;
     lent.write(3, 5)?;
     assert_eq!(rt; rack.read(3), 5);
+    Ok(())
+}
+
+// A rack in front of another is one too, and the rack below holds what was written through it.
+#[test]
+fn front_follows_script(rt: HostRuntime) -> Result<(), Fail> {
+    let mut cells = [7u32; 8];
+    follows_script(&rt, &mut Front::new(TableRack::new(&mut cells)))?;
+    let mut rows = [Row { key: 9, number: 9 }; 8];
+    let mut rack = ListRack::new(&mut rows);
+    follows_script(&rt, &mut Front::new(&mut rack))?;
+    let mut front = Front::new(&mut rack);
+    front.write(3, 5)?;
+    assert_eq!(rt; front.read(3), 5);
+    assert_eq!(rt; front.read(3), 5);
+    front.write(3, 6)?;
+    assert_eq!(rt; front.read(3), 6);
+    assert_eq!(rt; rack.read(3), 6);
     Ok(())
 }

@@ -5,29 +5,30 @@ ghost use Rattle.std.specs.Prelude.{◌≡◌, MatchOption};
 ghost use Rattle.racks.specs.Views.{NoneFrom, Smallest, one_if_held};
 ghost use Rattle.table_rack.specs.Tables.{cell, IsTable, table_view, table_bounded, new_table};
 
-use racks::{MOST_PLACES, Rack};
+use racks::{Rack, places_used};
 use terms::Refusal;
 
-// The number at a key stands at that place of the slice, and 0 says that the key is not held.
+/// The number at a key stands at that place of the slice, and 0 says that the key is not held.
 #[derive(Drop)]
 pub struct TableRack<'a> {
     cells: &'a mut [u32],
+    // Kept, since each read and write asks for it.
     used: u32,
     held: u32,
     ghost table: { IsTable cells.now used held },
 }
 
 impl<'a> TableRack<'a> {
-    // Empties the places that it uses: at most the first 2^26 of the slice.
+    /// Empties the places that it uses: at most the first 2^26 of the slice.
     pub fn new(cells: &'a mut [u32]) -> TableRack<'a>
         ensures fresh { table_view result.cells.ghost_name result.cells.now result.used ≡ new_table cells.entry.ghost_name cells.old }
         ensures slice { result.cells.ghost_name ≡ cells.entry.ghost_name }
     {
-        let used = cells.len().min(MOST_PLACES);
-        cells[..used].fill(0);
+        let used = places_used(cells.len());
+        cells[..used as usize].fill(0);
         TableRack {
             cells,
-            used: used as u32,
+            used,
             held: 0,
         }
     }
