@@ -4,6 +4,7 @@
 use examples::proved_examples;
 use list_rack::{ListRack, Row};
 use racks::{Rack, next_before};
+use tree_laws::Node;
 use trees::{RawNode, Tree};
 use windows::{Alphabet, Cut};
 
@@ -13,27 +14,6 @@ struct Entry<'a> {
     id: u16,
     moves: &'a [u8],
 }
-
-const NO_ROW: Row = Row { key: 0, number: 0 };
-
-// The kind of each node and its two numbers: moves 1 and 2 in parallel.
-const TABLE: [RawNode; 3] = [
-    RawNode {
-        kind: 1,
-        a: 1,
-        b: 0,
-    },
-    RawNode {
-        kind: 1,
-        a: 2,
-        b: 0,
-    },
-    RawNode {
-        kind: 5,
-        a: 1,
-        b: 2,
-    },
-];
 
 fn cut_of(alphabet: &Alphabet, entry: &Entry) -> anyhow::Result<Cut> {
     let play = alphabet.play(entry.moves)?;
@@ -123,7 +103,9 @@ fn print_played<R: Rack, S: Rack>(
 }
 
 fn print_tree<R: Rack>(rt: &HostRuntime, alphabet: &Alphabet, model: &mut R) -> anyhow::Result<()> {
-    let tree = Tree::new(*alphabet, &TABLE)?;
+    // Moves 1 and 2 in parallel.
+    let table = [Node::Move(1), Node::Move(2), Node::Parallel(1, 2)].map(RawNode::from);
+    let tree = Tree::new(*alphabet, &table)?;
     for (i, node) in tree.nodes().iter().enumerate() {
         let number = i + 1;
         println!(rt; "node {number}: {node}")?;
@@ -155,10 +137,10 @@ fn run(rt: &HostRuntime) -> anyhow::Result<()> {
     for (entry, cut) in entries.iter().zip(&cuts) {
         print_play(rt, &alphabet, entry, cut)?;
     }
-    let mut model_rows = [NO_ROW; 4096];
+    let mut model_rows = [Row::default(); 4096];
     let mut model = ListRack::new(&mut model_rows);
     print_tree(rt, &alphabet, &mut model)?;
-    let mut log_rows = [NO_ROW; 4096];
+    let mut log_rows = [Row::default(); 4096];
     let mut log = ListRack::new(&mut log_rows);
     for cut in &cuts {
         tally(&alphabet, &mut log, cut, &cuts)?;

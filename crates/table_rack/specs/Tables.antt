@@ -30,12 +30,16 @@ pub record IsTable (cells : List ℕ) (n held : ℕ) : Type 0 where
   pub counted : held ≡ held_count (cell cells n) n
   pub fitting : (k : ℕ) → k < n → slice_index cells k < 2 ^ 32
 
-pub table_bounded : (name : GName) (cells : List ℕ) (n held : ℕ) → IsTable cells n held → Bounded (table_view name cells n)
-table_bounded name cells n held is =
+-- the bounds hold where the used places' numbers fit
+pub table_bounds : (name : GName) (cells : List ℕ) (n : ℕ) → n ≡ places_used (length cells) → ((k : ℕ) → k < n → slice_index cells k < 2 ^ 32) → Bounded (table_view name cells n)
+table_bounds name cells n within fitting =
     record {
-      reach_fits = omega (arith, is.within);
-      room_fits = omega (arith, is.within);
-      number_fits = λ k. cond_both (nat_lt k n) (slice_index cells k) 0 (λ m. m < 2 ^ 32) (λ e. is.fitting k (ltb-true k n e)) (λ _. omega arith);
+      reach_fits = omega (arith, within);
+      room_fits = omega (arith, within);
+      number_fits = λ k. cond_both (nat_lt k n) (slice_index cells k) 0 (λ m. m < 2 ^ 32) (λ e. fitting k (ltb-true k n e)) (λ _. omega arith);
       below_reach = λ k h. cond-false (nat_lt k n) (slice_index cells k) 0 (le-ltb k n h);
       within_room = held_count_most (cell cells n) n;
     }
+
+pub table_bounded : (name : GName) (cells : List ℕ) (n held : ℕ) → IsTable cells n held → Bounded (table_view name cells n)
+table_bounded name cells n held is = table_bounds name cells n is.within is.fitting
