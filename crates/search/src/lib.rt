@@ -4,8 +4,6 @@
 ghost use Rattle.std.specs.Prelude.{◌≡◌, ℕ, ◌<◌, ◌≤◌, length, IfOk, IfErr, MatchResult};
 ghost use Rattle.search.specs.Places.{Ascending, StandsAt, BelongsAt};
 
-use std::cmp::Ordering;
-
 /// A record that tells the number by which it is ordered and found.
 pub trait Keyed {
     ghost key: { Self → ℕ };
@@ -15,21 +13,24 @@ pub trait Keyed {
         ensures { result ≡ key self.now };
 }
 
-/// Where the record with this key stands, or where one would belong.
-// Each turn halves what is left.
+/// Where the record with this key stands, or where one would belong. Each turn halves what is left.
 pub fn find<R: Keyed>(records: &[R], wanted: u64) -> Result<usize, usize>
     ensures inside { MatchResult result (λ i. i < length records.now) (λ i. i ≤ length records.now) }
     ensures found { IfOk result (λ i. StandsAt R.key records.now wanted i) }
     ensures missing { Ascending R.key records.now → IfErr result (λ i. BelongsAt R.key records.now wanted i) }
 {
+    // std's search asks one record more, and its three-way comparison takes a third more instructions.
     let mut low = 0;
     let mut high = records.len();
     while low < high {
         let middle = low + (high - low) / 2;
-        match records[middle].tell_key().cmp(&wanted) {
-            Ordering::Less => low = middle + 1,
-            Ordering::Equal => return Ok(middle),
-            Ordering::Greater => high = middle,
+        let here = records[middle].tell_key();
+        if here < wanted {
+            low = middle + 1;
+        } else if here > wanted {
+            high = middle;
+        } else {
+            return Ok(middle);
         }
     }
     Err(low)
