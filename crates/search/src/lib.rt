@@ -19,7 +19,7 @@ pub fn find<R: Keyed>(records: &[R], wanted: u64) -> Result<usize, usize>
     ensures found { IfOk result (λ i. StandsAt R.key records.now wanted i) }
     ensures missing { Ascending R.key records.now → IfErr result (λ i. BelongsAt R.key records.now wanted i) }
 {
-    // std's search asks one record more, and its three-way comparison takes a third more instructions.
+    // std's search asks one record more of seven, and with `match` on `cmp` planting takes a quarter more instructions.
     let mut low = 0;
     let mut high = records.len();
     while low < high {
