@@ -39,7 +39,7 @@ module _ {L : Turn → Language} {Ok : List ℕ → Type 0} (closed : Closed Ok)
     unfolding side
     side_long next_a zero = refl
     side_long next_b zero = refl
-    side_long m (suc j) = ap length (side_more m j) ∙ length_push (side m j) (at j m) ∙ ap (λ n. n + 1) (side_long m j) ∙ add-one j
+    side_long m (suc j) = omega (arith, ap length (side_more m j), length_push (side m j) (at j m), side_long m j)
 
     side_at : (m : Turn) (n j : ℕ) → j < n → get_or (side m n) j 0 ≡ at j m
     side_at m zero j h = absurd (omega arith)
@@ -59,7 +59,7 @@ module _ {L : Turn → Language} {Ok : List ℕ → Type 0} (closed : Closed Ok)
     lately_reached j m (inl s) = start s
     lately_reached j m (inr (i, l, (r, p))) =
         let whole : i + (j - i) ≡ j = omega arith in
-        carry (Reached L f m) (reached_more L f m r p) (sym (take-add i (j - i) u) ∙ ap (λ n. take n u) whole)
+        rw (← take-add i (j - i) u, whole) at (reached_more L f m r p)
 
     direct_lately : (j : ℕ) (m : Turn) → j ≤ length u → Direct L f m (take j u) → Lately j m
     unfolding Lately
@@ -71,14 +71,14 @@ module _ {L : Turn → Language} {Ok : List ℕ → Type 0} (closed : Closed Ok)
         let whole : i + (j - i) ≡ j = omega arith in
         let front : y ≡ take i u = sym (take-append_seam y (c ∷ z)) ∙ ap (take i) (sym e) ∙ take-take i j u (omega arith) in
         let back : c ∷ z ≡ take (j - i) (drop i u) = sym (drop-append_seam y (c ∷ z)) ∙ ap (drop i) (sym e ∙ ap (λ n. take n u) (sym whole)) ∙ drop-take i (j - i) u in
-        inr (i, less, (carry (Reached L f (other m)) r front, carry (L (other m)) l back))
+        inr (i, less, (rw front at r, rw back at l))
 
     whole_tells : (m : Turn) (w : List ℕ) → Ok w → Decides (on (of_turn sa sb m w) 3) (L m w)
     whole_tells m w o = Decides-like _ whole_of of_whole ((right m w o).tells false false)
 
   start_tells : (f : Bool) (j : ℕ) (m : Turn) → j ≤ length u → Decides (on (start_bit f sa sb u j m) 3) (Start L f m (take j u))
   start_tells false j next_a h =
-      Decides-at _ _ (on_cond (eqb j 0) 8 3 refl) (λ e. (refl, ap (λ n. take n u) (eqb-true j 0 e)), λ s. eq-eqb j 0 (omega (arith, sym (length-take-le j u h) ∙ ap length s.1)))
+      Decides-at _ _ (on_cond (eqb j 0) 8 3 refl) (λ e. (refl, ap (λ n. take n u) (eqb-true j 0 e)), λ s. eq-eqb j 0 (omega (arith, length-take-le j u h, ap length s.1)))
   start_tells false j next_b h = (λ e. absurd (both_ways _ (on_none 3) e), λ s. absurd (turns_differ s.0))
   start_tells true j m h =
       let s = of_turn sa sb (other m) (take j u) in
@@ -161,7 +161,7 @@ module _ {L : Turn → Language} {Ok : List ℕ → Type 0} (closed : Closed Ok)
         rest_tells
 
     finish_tells : Decides (on (get_or (side f next_b (length u + 1)) (length u) 0) 3) (Reached L f next_b u)
-    finish_tells = Decides-like _ (λ r. carry (Reached L f next_b) r (take-length u)) (λ r. carry (Reached L f next_b) r (sym (take-length u))) (states_tell (length u) (omega arith) next_b)
+    finish_tells = Decides-like _ (λ r. rw take-length at r) (λ r. rw take-length r) (states_tell (length u) (omega arith) next_b)
 
     run_on : (i : ℕ) → on (run_standing f sa sb u) i ≡ ((on (get_or (side f next_b (length u + 1)) (length u) 0) i && on 8 i) || (on (ors rests (length u + 1)) i && on 2 i))
     unfolding rests side
