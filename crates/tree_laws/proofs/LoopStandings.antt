@@ -1,14 +1,13 @@
 -- The states of a loop are its boundaries, and the standing of a word in it is what its laws say.
-use Rattle.std.proofs.Common.{◌≡◌, ℕ, zero, suc, ◌+◌, ◌-◌, ◌/◌, ◌^◌, ◌<◌, ◌≤◌, Bool, true, false, ◌&&◌, ◌||◌, eqb, ◌⊎◌, List, [], ◌∷◌, ◌++◌, length, get_or, take, drop, Decides, sym, refl, ap, ◌∙◌, subst, inl, inr, ⊎_elim, append-nil, add-one, arith, length-append, take-append-drop, length-take-le, take-take, take-add}
+use Rattle.std.proofs.Common.{◌≡◌, ℕ, zero, suc, ◌+◌, ◌-◌, ◌/◌, ◌^◌, ◌<◌, ◌≤◌, Bool, true, false, ◌&&◌, ◌||◌, eqb, ◌⊎◌, List, [], ◌∷◌, ◌++◌, length, get_or, take, drop, Decides, sym, refl, ap, ◌∙◌, inl, inr, ⊎_elim, append-nil, arith, length-append, take-append-drop, length-take-le, take-take, take-add}
 use mathlib.Core.Bool.{or-false, and-true, and-false, false≢true}
 use lib.Bits.{bit_and, bit_or, or_lt}
 use lib.Seq.{take-append_seam, drop-append_seam, take-length}
 use Rattle.std.proofs.lemmas.List.{drop-take, get_or_append_left, get_or_push, length_push}
-use Rattle.std.proofs.lemmas.Bool.{eqb-true, eq-eqb, both_ways, cases_lt}
+use Rattle.std.proofs.lemmas.Bool.{eqb-true, eq-eqb, both_ways}
 use Rattle.std.proofs.lemmas.Bool.Decides.{Decides-at, Decides-or, Decides-and, Decides-like}
 use Rattle.tree_laws.specs.Boundaries.{Turn, next_a, next_b, other}
 use Rattle.tree_laws.specs.Computed.{has, ors, of_turn, start_bit, piece_bit, direct_bit, state_bit, states, rest_bits, run_standing, loop_standing}
-use Rattle.tree_laws.proofs.Splits.{carry}
 use Rattle.tree_laws.proofs.Parts.{Language, Some, Part, whole_of, of_whole}
 use Rattle.tree_laws.proofs.Loops.{Run, Start, Reached, start, Finished, loop_to, loop_from, Direct, reached_last, reached_more}
 use Rattle.tree_laws.proofs.Bits.{on, on_or, on_and, on_shift, on_none, on_ors, on_cond, has_on}
@@ -16,6 +15,10 @@ use Rattle.tree_laws.proofs.Standings.{place, Right, Closed, upper, lower, neith
 
 turns_differ : next_b ≡ next_a → ⊥
 turns_differ e = cc
+
+either_turn : (P : Turn → Type 0) (m : Turn) → P m → P next_a ⊎ P next_b
+either_turn P next_a h = inl h
+either_turn P next_b h = inr h
 
 module _ {L : Turn → Language} {Ok : List ℕ → Type 0} (closed : Closed Ok) (sa sb : List ℕ → ℕ)
     (right : (m : Turn) (w : List ℕ) → Ok w → Right (L m) w (of_turn sa sb m w)) (u : List ℕ) (ok : Ok u) where
@@ -44,11 +47,7 @@ module _ {L : Turn → Language} {Ok : List ℕ → Type 0} (closed : Closed Ok)
     side_at : (m : Turn) (n j : ℕ) → j < n → get_or (side m n) j 0 ≡ at j m
     side_at m zero j h = absurd (omega arith)
     side_at m (suc n) j h =
-        ap (λ l. get_or l j 0) (side_more m n)
-        ∙ ⊎_elim
-        (λ l. get_or_append_left (side m n) (at n m ∷ []) 0 j (omega (arith, side_long m n)) ∙ side_at m n j l)
-        (λ l. let e : j ≡ n = omega arith in get_or_push (side m n) (at n m) 0 j (side_long m n ∙ sym e) ∙ ap (λ i. at i m) (sym e))
-        (cases_lt j n)
+        rw (side_more m n) (grind (arith, get_or_append_left (side m n) (at n m ∷ []) 0 j, get_or_push (side m n) (at n m) 0 j, side_long m n, side_at m n j, h))
 
     -- reached at j by a start, or by a piece from a lower position
     Lately : ℕ → Turn → Type 0
@@ -69,8 +68,8 @@ module _ {L : Turn → Language} {Ok : List ℕ → Type 0} (closed : Closed Ok)
         let long : length (take j u) ≡ j = length-take-le j u h in
         let less : i < j = omega (arith, long, ap length e ∙ length-append y (c ∷ z)) in
         let whole : i + (j - i) ≡ j = omega arith in
-        let front : y ≡ take i u = sym (take-append_seam y (c ∷ z)) ∙ ap (take i) (sym e) ∙ take-take i j u (omega arith) in
-        let back : c ∷ z ≡ take (j - i) (drop i u) = sym (drop-append_seam y (c ∷ z)) ∙ ap (drop i) (sym e ∙ ap (λ n. take n u) (sym whole)) ∙ drop-take i (j - i) u in
+        let front : y ≡ take i u = cc (take-append_seam y (c ∷ z), take-take i j u (omega arith)) in
+        let back : c ∷ z ≡ take (j - i) (drop i u) = cc (drop-append_seam y (c ∷ z), drop-take i (j - i) u) in
         inr (i, less, (rw front at r, rw back at l))
 
     whole_tells : (m : Turn) (w : List ℕ) → Ok w → Decides (on (of_turn sa sb m w) 3) (L m w)
@@ -103,7 +102,7 @@ module _ {L : Turn → Language} {Ok : List ℕ → Type 0} (closed : Closed Ok)
         let d = direct_bit f sa sb u (upto f j) j in
         Decides-at _ _ (on_or (d m) (bit_and (d k) (of_turn sa sb k [])) 3 ∙ ap (λ c. on (d m) 3 || c) (on_and (d k) (of_turn sa sb k []) 3))
         (Decides-like _
-        (⊎_elim (lately_reached f j m) (λ e. carry (Reached L f m) (reached_more L f m (lately_reached f j k e.0) e.1) (append-nil (take j u))))
+        (⊎_elim (lately_reached f j m) (λ e. rw append-nil at (reached_more L f m (lately_reached f j k e.0) e.1)))
         (λ r. ⊎_elim (λ x. inl (direct_lately f j m h x)) (λ x. inr (direct_lately f j k h x.0, x.1)) (reached_last L f r))
         (Decides-or _ _ (direct_tells j h below m) (Decides-and _ _ (direct_tells j h below k) (whole_tells f k [] closed.ok_nil))))
 
@@ -143,10 +142,6 @@ module _ {L : Turn → Language} {Ok : List ℕ → Type 0} (closed : Closed Ok)
     unfolding Going Underway
     going_on j m h = (m, take j u, drop j u, sym (take-append-drop j u), h.0, h.1)
 
-    gone : (j : ℕ) (m : Turn) → Going j m → Going j next_a ⊎ Going j next_b
-    gone j next_a h = inl h
-    gone j next_b h = inr h
-
     underway_tells : Decides (on (ors rests (length u + 1)) 1) Underway
     unfolding Going Underway
     underway_tells =
@@ -156,7 +151,7 @@ module _ {L : Turn → Language} {Ok : List ℕ → Type 0} (closed : Closed Ok)
         let (m, x, y, e, r, p) = h in (
           length x,
           omega (arith, ap length e ∙ length-append x y),
-          gone (length x) m (carry (Reached L f m) r (sym (ap (take (length x)) e ∙ take-append_seam x y)), subst (Part false true (L m)) (sym (ap (drop (length x)) e ∙ drop-append_seam x y)) p),
+          either_turn (Going (length x)) m (rw (e, take-append_seam) r, rw (e, drop-append_seam) p),
         ))
         rest_tells
 
@@ -193,11 +188,7 @@ module _ {L : Turn → Language} {Ok : List ℕ → Type 0} (closed : Closed Ok)
       ∙ (λ k. (on_or x (y / 2 ^ 1) i ∙ ap (λ c. on x i || c) (on_shift y 1 i)) k || (on_and (bit_or (sa u) (sb u)) 1 i ∙ ap (λ c. c && on 1 i) (on_or (sa u) (sb u) i)) k)
 
   in_pieces : Decides (on (sa u) 0 || on (sb u) 0) ((true ≡ true) × (m : Turn) × Part true true (L m) u)
-  in_pieces = Decides-like _ (⊎_elim (λ h. (refl, next_a, h)) (λ h. (refl, next_b, h))) (λ h. sort h.1 h.2) (Decides-or _ _ ((right next_a u ok).tells true true) ((right next_b u ok).tells true true))
-    where
-      sort : (m : Turn) → Part true true (L m) u → Part true true (L next_a) u ⊎ Part true true (L next_b) u
-      sort next_a h = inl h
-      sort next_b h = inr h
+  in_pieces = Decides-like _ (⊎_elim (λ h. (refl, next_a, h)) (λ h. (refl, next_b, h))) (λ h. either_turn (λ m. Part true true (L m) u) h.1 h.2) (Decides-or _ _ ((right next_a u ok).tells true true) ((right next_b u ok).tells true true))
 
   loop_tells : (f b : Bool) → Decides (on (loop_standing sa sb u) (place f b)) (Finished L f b u)
   unfolding Underway
