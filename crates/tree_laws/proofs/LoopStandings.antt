@@ -92,7 +92,7 @@ module _ {L : Turn → Language} {Ok : List ℕ → Type 0} (closed : Closed Ok)
         Decides-at _ _ (on_or (start_bit f sa sb u j m) (ors pieces j) 3)
         (Decides-or _ _ (start_tells f j m h)
         (on_ors pieces 3 (λ i. Reached L f k (take i u) × L k (take (j - i) (drop i u))) j
-        (λ i l. Decides-at _ _ (on_and (get_or (side f k j) i 0) (of_turn sa sb k (take (j - i) (drop i u))) 3 ∙ ap (λ s. on s 3 && on (of_turn sa sb k (take (j - i) (drop i u))) 3) (side_at f k j i l))
+        (λ i l. Decides-at _ _ (cc (on_and (get_or (side f k j) i 0) (of_turn sa sb k (take (j - i) (drop i u))) 3, side_at f k j i l))
         (Decides-and _ _ (below i l k) (whole_tells f k (take (j - i) (drop i u)) (closed.ok_take (j - i) (drop i u) (closed.ok_drop i u ok)))))))
 
     state_tells : (j : ℕ) → j ≤ length u → ((i : ℕ) → i < j → (m : Turn) → Decides (on (at f i m) 3) (Reached L f m (take i u))) → (m : Turn) → Decides (on (at f j m) 3) (Reached L f m (take j u))
@@ -100,7 +100,7 @@ module _ {L : Turn → Language} {Ok : List ℕ → Type 0} (closed : Closed Ok)
     state_tells j h below m =
         let k = other m in
         let d = direct_bit f sa sb u (upto f j) j in
-        Decides-at _ _ (on_or (d m) (bit_and (d k) (of_turn sa sb k [])) 3 ∙ ap (λ c. on (d m) 3 || c) (on_and (d k) (of_turn sa sb k []) 3))
+        Decides-at _ _ (cc (on_or (d m) (bit_and (d k) (of_turn sa sb k [])) 3, on_and (d k) (of_turn sa sb k []) 3))
         (Decides-like _
         (⊎_elim (lately_reached f j m) (λ e. rw append-nil at (reached_more L f m (lately_reached f j k e.0) e.1)))
         (λ r. ⊎_elim (λ x. inl (direct_lately f j m h x)) (λ x. inr (direct_lately f j k h x.0, x.1)) (reached_last L f r))
@@ -123,7 +123,7 @@ module _ {L : Turn → Language} {Ok : List ℕ → Type 0} (closed : Closed Ok)
     going_tells j h m =
         let s = get_or (side f m (length u + 1)) j 0 in
         let r = of_turn sa sb m (drop j u) in
-        Decides-at _ _ (on_and (s / 2 ^ 2) r 1 ∙ ap (λ c. c && on r 1) (on_shift s 2 1)) (Decides-and _ _ (states_tell j h m) ((right m (drop j u) (closed.ok_drop j u ok)).tells false true))
+        Decides-at _ _ (cc (on_and (s / 2 ^ 2) r 1, on_shift s 2 1)) (Decides-and _ _ (states_tell j h m) ((right m (drop j u) (closed.ok_drop j u ok)).tells false true))
 
     rests : ℕ → ℕ
     rests = rest_bits sa sb u (states f sa sb u (length u + 1))
@@ -163,13 +163,11 @@ module _ {L : Turn → Language} {Ok : List ℕ → Type 0} (closed : Closed Ok)
     run_on i =
         let s = get_or (side f next_b (length u + 1)) (length u) 0 in
         let r = ors rests (length u + 1) in
-        on_or (bit_and s 8) (bit_and r 2) i ∙ (λ k. on_and s 8 i k || on_and r 2 i k)
+        on_or (bit_and s 8) (bit_and r 2) i ∙ cc (on_and s 8 i, on_and r 2 i)
 
     run_off : (i : ℕ) → on 8 i ≡ false → on 2 i ≡ false → on (run_standing f sa sb u) i ≡ false
     run_off i e₁ e₂ =
-        let x = on (get_or (side f next_b (length u + 1)) (length u) 0) i in
-        let y = on (ors rests (length u + 1)) i in
-        run_on i ∙ (λ k. (x && e₁ k) || (y && e₂ k)) ∙ neither x y
+        run_on i ∙ simp (e₁, e₂) (neither _ _)
 
     run_small : run_standing f sa sb u < 16
     run_small = or_lt 4 _ _ (and_small (get_or (states f sa sb u (length u + 1)).1 (length u) 0) 8 (omega arith)) (and_small (ors (rest_bits sa sb u (states f sa sb u (length u + 1))) (length u + 1)) 2 (omega arith))
@@ -185,7 +183,7 @@ module _ {L : Turn → Language} {Ok : List ℕ → Type 0} (closed : Closed Ok)
       let x = run_standing false sa sb u in
       let y = run_standing true sa sb u in
       on_or (bit_or x (y / 2 ^ 1)) (bit_and (bit_or (sa u) (sb u)) 1) i
-      ∙ (λ k. (on_or x (y / 2 ^ 1) i ∙ ap (λ c. on x i || c) (on_shift y 1 i)) k || (on_and (bit_or (sa u) (sb u)) 1 i ∙ ap (λ c. c && on 1 i) (on_or (sa u) (sb u) i)) k)
+      ∙ cc (on_or x (y / 2 ^ 1) i, on_shift y 1 i, on_and (bit_or (sa u) (sb u)) 1 i, on_or (sa u) (sb u) i)
 
   in_pieces : Decides (on (sa u) 0 || on (sb u) 0) ((true ≡ true) × (m : Turn) × Part true true (L m) u)
   in_pieces = Decides-like _ (⊎_elim (λ h. (refl, next_a, h)) (λ h. (refl, next_b, h))) (λ h. either_turn (λ m. Part true true (L m) u) h.1 h.2) (Decides-or _ _ ((right next_a u ok).tells true true) ((right next_b u ok).tells true true))
@@ -193,17 +191,14 @@ module _ {L : Turn → Language} {Ok : List ℕ → Type 0} (closed : Closed Ok)
   loop_tells : (f b : Bool) → Decides (on (loop_standing sa sb u) (place f b)) (Finished L f b u)
   unfolding Underway
   loop_tells true true =
-      Decides-at _ _ (loop_on 0 ∙ (λ k. (run_off false 0 refl refl k || on (run_standing true sa sb u) 1) || and-true (on (sa u) 0 || on (sb u) 0) k)) (Decides-or _ _ (run_open true) in_pieces)
+      Decides-at _ _ (loop_on 0 ∙ simp (run_off false 0 refl refl, and-true)) (Decides-or _ _ (run_open true) in_pieces)
   loop_tells false true =
-      let x = on (run_standing false sa sb u) 1 in
-      Decides-at _ _ (loop_on 1 ∙ (λ k. (x || run_off true 2 refl refl k) || and-false (on (sa u) 1 || on (sb u) 1) k) ∙ or-false (x || false) ∙ or-false x)
+      Decides-at _ _ (loop_on 1 ∙ simp (run_off true 2 refl refl, and-false, or-false))
       (Decides-like _ inl (⊎_elim (λ h. h) (λ h. absurd (false≢true h.0))) (run_open false))
   loop_tells true false =
-      let y = on (run_standing true sa sb u) 3 in
-      Decides-at _ _ (loop_on 2 ∙ (λ k. (run_off false 2 refl refl k || y) || and-false (on (sa u) 2 || on (sb u) 2) k) ∙ or-false y) (run_closed true)
+      Decides-at _ _ (loop_on 2 ∙ simp (run_off false 2 refl refl, and-false, or-false)) (run_closed true)
   loop_tells false false =
-      let x = on (run_standing false sa sb u) 3 in
-      Decides-at _ _ (loop_on 3 ∙ (λ k. (x || run_off true 4 refl refl k) || and-false (on (sa u) 3 || on (sb u) 3) k) ∙ or-false (x || false) ∙ or-false x) (run_closed false)
+      Decides-at _ _ (loop_on 3 ∙ simp (run_off true 4 refl refl, and-false, or-false)) (run_closed false)
 
   pub loop_right : ((m : Turn) → Some (L m)) → Right (Run L next_b next_a) u (loop_standing sa sb u)
   loop_right some = record {
