@@ -31,10 +31,8 @@ module _ {X : Type 0} where
   distinct_fits [] ys apart within = omega arith
   distinct_fits (x ∷ xs) ys apart within =
       let (a, b, e) = has_split ys x (within x (has_first x xs)) in
-      omega (arith, ap length e ∙ length-append a (x ∷ b), length-append a b, distinct_fits xs (a ++ b) apart.1 (others a b e))
-    where
-      others : (a b : List X) → ys ≡ a ++ (x ∷ b) → (z : X) → Contains xs z → Contains (a ++ b) z
-      others a b e z h = grind (arith, has_without a b x z, within z (has_rest x xs z h))
+      let fits = distinct_fits xs (a ++ b) apart.1 (λ z h. grind (arith, has_without a b x z, within z (has_rest x xs z h))) in
+      omega (arith, ap length e ∙ length-append a (x ∷ b), length-append a b, fits)
 
 -- m before the keys, if its number is not 0
 abbrev pub with_held : ℕ → ℕ → List ℕ → List ℕ

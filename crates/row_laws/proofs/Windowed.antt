@@ -15,7 +15,7 @@ use Rattle.tree_laws.proofs.Computed.{bits_at}
 use Rattle.row_laws.specs.Progress.{NodeKey, Upto}
 use Rattle.row_laws.specs.Rows.{row_key, HasRow, RowsAt}
 use Rattle.row_laws.specs.Windowed.{with_marks, Fits, turn, WindowKey, Windowed}
-use Rattle.row_laws.proofs.WithMarks.{fits_short, with_marks_items, with_marks_apart, turn_apart, with_marks_below, turn_below, marking_of_window, window_of_marking, with_marks_decides, with_marks_none}
+use Rattle.row_laws.proofs.WithMarks.{Marking, fits_short, with_marks_items, with_marks_apart, turn_apart, with_marks_below, turn_below, marking_of_window, window_of_marking, with_marks_decides, with_marks_none}
 
 -- the key of a node's row is not below the base's power
 pub node_key_high : (n k v : ℕ) (u : List ℕ) → 1 ≤ v → base n ^ k ≤ row_key n k v u
@@ -38,14 +38,12 @@ module _ (n k : ℕ) (t : List Node) (few : n ≤ 12) (wide : 2 ≤ k) (wf : Wel
     standings = h.standings;
     played = λ i u four moves fits l p. absurd (omega arith);
     unplayed = λ i u four moves fits l no. absurd (omega arith);
-    pending = λ i u four moves fits l. omega (arith, not_held i u moves fits);
+    pending = λ i u four moves fits l.
+        let not_held : 0 < f (code n (with_marks i u)) → ⊥ =
+            λ held. let r = h.only (code n (with_marks i u)) held in omega (arith, with_marks_below n few k i u moves fits, node_key_high n k r.node r.word r.from_one, r.key_is) in
+        omega (arith, not_held);
     only = λ key held. inl (h.only key held);
   }
-    where
-      not_held : (i : ℕ) (u : List ℕ) → Moves n u → Fits k i (length u) → 0 < f (code n (with_marks i u)) → ⊥
-      not_held i u moves fits held =
-          let r = h.only (code n (with_marks i u)) held in
-          omega (arith, with_marks_below n few k i u moves fits, node_key_high n k r.node r.word r.from_one, r.key_is)
 
   module _ {d : ℕ} {f : ℕ → ℕ} (h : Windowed n k t d f) (i : ℕ) (u : List ℕ) (four : i < 4) (moves : Moves n u) (here : d ≡ turn n i u) where
     -- before its turn a window has no row
@@ -118,15 +116,7 @@ module _ (n k : ℕ) (t : List Node) (few : n ≤ 12) (wide : 2 ≤ k) (wf : Wel
       at_node r =
           let standing = h.standings r.node r.word r.from_one r.inside r.moves r.short in
           ⊎_elim
-          (λ is. inl (record {
-            node = r.node;
-            word = r.word;
-            from_one = r.from_one;
-            inside = r.inside;
-            short = r.short;
-            contained = standing.contained_tells.0 is;
-            key_is = r.key_is;
-          }))
+          (λ is. inl (record { node = r.node; word = r.word; from_one = r.from_one; inside = r.inside; short = r.short; contained = standing.contained_tells.0 is; key_is = r.key_is }))
           (λ not. absurd (omega (arith, ap f r.key_is, (bits_at t r.node r.word _ standing).none.1 (not_from_Decides standing.contained standing.contained_tells not))))
           (cases_Bool standing.contained)
 
@@ -144,9 +134,12 @@ module _ (n k : ℕ) (t : List Node) (few : n ≤ 12) (wide : 2 ≤ k) (wf : Wel
     standings = h.standings;
     played = λ x is p.
         let r = marking_of_window n k x wide is in
-        rw r.is (h.played r.marks r.word r.four r.moves r.fits (omega (arith, turn_below n few k r.marks r.word r.four r.moves r.fits)) (rw r.is at p));
+        rw r.is (h.played r.marks r.word r.four r.moves r.fits (late r) (rw r.is at p));
     unplayed = λ x is no.
         let r = marking_of_window n k x wide is in
-        rw r.is (h.unplayed r.marks r.word r.four r.moves r.fits (omega (arith, turn_below n few k r.marks r.word r.four r.moves r.fits)) (rw r.is at no));
+        rw r.is (h.unplayed r.marks r.word r.four r.moves r.fits (late r) (rw r.is at no));
     only = windowed_rows h;
   }
+    where
+      late : {x : List ℕ} (r : Marking n k x) → turn n r.marks r.word < d
+      late r = omega (arith, turn_below n few k r.marks r.word r.four r.moves r.fits)
