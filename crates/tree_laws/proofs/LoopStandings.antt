@@ -13,9 +13,6 @@ use Rattle.tree_laws.proofs.Loops.{Run, Start, Reached, start, Finished, loop_to
 use Rattle.tree_laws.proofs.Bits.{on, on_or, on_and, on_shift, on_none, on_ors, on_cond, has_on}
 use Rattle.tree_laws.proofs.Standings.{place, Right, Closed, upper, lower, neither, and_small}
 
-turns_differ : next_b ≡ next_a → ⊥
-turns_differ e = cc
-
 either_turn : (P : Turn → Type 0) (m : Turn) → P m → P next_a ⊎ P next_b
 either_turn P next_a h = inl h
 either_turn P next_b h = inr h
@@ -47,7 +44,7 @@ module _ {L : Turn → Language} {Ok : List ℕ → Type 0} (closed : Closed Ok)
     side_at : (m : Turn) (n j : ℕ) → j < n → get_or (side m n) j 0 ≡ at j m
     side_at m zero j h = absurd (omega arith)
     side_at m (suc n) j h =
-        rw (side_more m n) (grind (arith, get_or_append_left (side m n) (at n m ∷ []) 0 j, get_or_push (side m n) (at n m) 0 j, side_long m n, side_at m n j, h))
+        rw (side_more m n) (grind (arith, get_or_append_left (side m n) (at n m ∷ []) 0 j, get_or_push (side m n) (at n m) 0 j, side_long m n, side_at m n j))
 
     -- reached at j by a start, or by a piece from a lower position
     Lately : ℕ → Turn → Type 0
@@ -78,33 +75,34 @@ module _ {L : Turn → Language} {Ok : List ℕ → Type 0} (closed : Closed Ok)
   start_tells : (f : Bool) (j : ℕ) (m : Turn) → j ≤ length u → Decides (on (start_bit f sa sb u j m) 3) (Start L f m (take j u))
   start_tells false j next_a h =
       Decides-at _ _ (on_cond (eqb j 0) 8 3 refl) (λ e. (refl, ap (λ n. take n u) (eqb-true j 0 e)), λ s. eq-eqb j 0 (omega (arith, length-take-le j u h, ap length s.1)))
-  start_tells false j next_b h = (λ e. absurd (both_ways _ (on_none 3) e), λ s. absurd (turns_differ s.0))
+  start_tells false j next_b h = (λ e. absurd (both_ways _ (on_none 3) e), λ s. absurd (cc s.0))
   start_tells true j m h =
       let s = of_turn sa sb (other m) (take j u) in
       Decides-at _ _ (on_cond (has s 4) 8 3 refl ∙ has_on s 2) ((right (other m) (take j u) (closed.ok_take j u ok)).tells true false)
 
   module _ (f : Bool) where
-    direct_tells : (j : ℕ) → j ≤ length u → ((i : ℕ) → i < j → (m : Turn) → Decides (on (at f i m) 3) (Reached L f m (take i u))) → (m : Turn) → Decides (on (direct_bit f sa sb u (upto f j) j m) 3) (Lately f j m)
-    unfolding Lately side upto
-    direct_tells j h below m =
-        let k = other m in
-        let pieces = piece_bit sa sb u (side f k j) j k in
-        Decides-at _ _ (on_or (start_bit f sa sb u j m) (ors pieces j) 3)
-        (Decides-or _ _ (start_tells f j m h)
-        (on_ors pieces 3 (λ i. Reached L f k (take i u) × L k (take (j - i) (drop i u))) j
-        (λ i l. Decides-at _ _ (cc (on_and (get_or (side f k j) i 0) (of_turn sa sb k (take (j - i) (drop i u))) 3, side_at f k j i l))
-        (Decides-and _ _ (below i l k) (whole_tells f k (take (j - i) (drop i u)) (closed.ok_take (j - i) (drop i u) (closed.ok_drop i u ok)))))))
+    module _ (j : ℕ) (h : j ≤ length u) (below : (i : ℕ) → i < j → (m : Turn) → Decides (on (at f i m) 3) (Reached L f m (take i u))) where
+      direct_tells : (m : Turn) → Decides (on (direct_bit f sa sb u (upto f j) j m) 3) (Lately f j m)
+      unfolding Lately side upto
+      direct_tells m =
+          let k = other m in
+          let pieces = piece_bit sa sb u (side f k j) j k in
+          Decides-at _ _ (on_or (start_bit f sa sb u j m) (ors pieces j) 3)
+          (Decides-or _ _ (start_tells f j m h)
+          (on_ors pieces 3 (λ i. Reached L f k (take i u) × L k (take (j - i) (drop i u))) j
+          (λ i l. Decides-at _ _ (cc (on_and (get_or (side f k j) i 0) (of_turn sa sb k (take (j - i) (drop i u))) 3, side_at f k j i l))
+          (Decides-and _ _ (below i l k) (whole_tells f k (take (j - i) (drop i u)) (closed.ok_take (j - i) (drop i u) (closed.ok_drop i u ok)))))))
 
-    state_tells : (j : ℕ) → j ≤ length u → ((i : ℕ) → i < j → (m : Turn) → Decides (on (at f i m) 3) (Reached L f m (take i u))) → (m : Turn) → Decides (on (at f j m) 3) (Reached L f m (take j u))
-    unfolding at upto
-    state_tells j h below m =
-        let k = other m in
-        let d = direct_bit f sa sb u (upto f j) j in
-        Decides-at _ _ (cc (on_or (d m) (bit_and (d k) (of_turn sa sb k [])) 3, on_and (d k) (of_turn sa sb k []) 3))
-        (Decides-like _
-        (⊎_elim (lately_reached f j m) (λ e. rw append-nil at (reached_more L f m (lately_reached f j k e.0) e.1)))
-        (λ r. ⊎_elim (λ x. inl (direct_lately f j m h x)) (λ x. inr (direct_lately f j k h x.0, x.1)) (reached_last L f r))
-        (Decides-or _ _ (direct_tells j h below m) (Decides-and _ _ (direct_tells j h below k) (whole_tells f k [] closed.ok_nil))))
+      state_tells : (m : Turn) → Decides (on (at f j m) 3) (Reached L f m (take j u))
+      unfolding at upto
+      state_tells m =
+          let k = other m in
+          let d = direct_bit f sa sb u (upto f j) j in
+          Decides-at _ _ (cc (on_or (d m) (bit_and (d k) (of_turn sa sb k [])) 3, on_and (d k) (of_turn sa sb k []) 3))
+          (Decides-like _
+          (⊎_elim (lately_reached f j m) (λ e. rw append-nil at (reached_more L f m (lately_reached f j k e.0) e.1)))
+          (λ r. ⊎_elim (λ x. inl (direct_lately f j m h x)) (λ x. inr (direct_lately f j k h x.0, x.1)) (reached_last L f r))
+          (Decides-or _ _ (direct_tells m) (Decides-and _ _ (direct_tells k) (whole_tells f k [] closed.ok_nil))))
 
     states_below : (bound j : ℕ) → j < bound → j ≤ length u → (m : Turn) → Decides (on (at f j m) 3) (Reached L f m (take j u))
     states_below zero j l h m = absurd (omega arith)
@@ -112,7 +110,7 @@ module _ {L : Turn → Language} {Ok : List ℕ → Type 0} (closed : Closed Ok)
 
     -- the state at j has a turn where the boundary is reached
     states_tell : (j : ℕ) → j ≤ length u → (m : Turn) → Decides (on (get_or (side f m (length u + 1)) j 0) 3) (Reached L f m (take j u))
-    states_tell j h m = Decides-at _ _ (ap (λ s. on s 3) (side_at f m (length u + 1) j (omega arith))) (states_below (suc j) j (omega arith) h m)
+    states_tell j h m = rw (side_at f m (length u + 1) j (omega arith)) (states_below (suc j) j (omega arith) h m)
 
     -- the rest of the word from j on begins a piece
     Going : ℕ → Turn → Type 0
@@ -156,7 +154,7 @@ module _ {L : Turn → Language} {Ok : List ℕ → Type 0} (closed : Closed Ok)
         rest_tells
 
     finish_tells : Decides (on (get_or (side f next_b (length u + 1)) (length u) 0) 3) (Reached L f next_b u)
-    finish_tells = Decides-like _ (λ r. rw take-length at r) (λ r. rw take-length r) (states_tell (length u) (omega arith) next_b)
+    finish_tells = rw take-length at (states_tell (length u) (omega arith) next_b)
 
     run_on : (i : ℕ) → on (run_standing f sa sb u) i ≡ ((on (get_or (side f next_b (length u + 1)) (length u) 0) i && on 8 i) || (on (ors rests (length u + 1)) i && on 2 i))
     unfolding rests side
