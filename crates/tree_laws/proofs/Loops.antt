@@ -2,7 +2,7 @@
 use Rattle.std.proofs.Common.{◌≡◌, ℕ, Bool, true, false, ◌⊎◌, List, [], ◌∷◌, ◌++◌, sym, refl, inl, inr, ⊎_elim, append_assoc, append-nil}
 use Rattle.tree_laws.specs.Boundaries.{Turn, next_a, next_b, other}
 use Rattle.tree_laws.proofs.Splits.{levi, nil_parts}
-use Rattle.tree_laws.proofs.Parts.{Language, Some, Open, open_parts, Part, ending, beginning, ended, begun}
+use Rattle.tree_laws.proofs.Parts.{Language, Some, Open, open_parts, Part, part, ending, beginning, ended, begun}
 
 -- pieces in turn, from the side s on; e is the side that is next at the end
 pub data Run (L : Turn → Language) (e : Turn) : Turn → List ℕ → Type 0 where
@@ -74,9 +74,9 @@ module _ (L : Turn → Language) where
 
     -- the word lies in one piece, or begins in it
     within_piece : (b : Bool) (m : Turn) (u y s rest : List ℕ) → Open b s → Open b rest → L m (y ++ (u ++ s)) → Run L next_b (other m) rest → Finished L true b u
-    within_piece true m u y s rest o₁ o₂ l r = inr (refl, m, record { before = y; after = s; front_open = tt; back_open = tt; word = l })
+    within_piece true m u y s rest o₁ o₂ l r = inr (refl, m, part y s tt tt l)
     within_piece false m u y s rest o₁ o₂ l r =
-        finish_to true false [] rest o₂ (start (started m (record { before = y; after = s; front_open = tt; back_open = o₁; word = l }))) r (simp append-nil)
+        finish_to true false [] rest o₂ (start (started m (part y s tt o₁ l))) r (simp append-nil)
 
     pub loop_to : (f b : Bool) (u : List ℕ) → Part f b (Run L next_b next_a) u → Finished L f b u
     loop_to false b u h = let (q, o, r) = begun h in finish_to false b u q o (start (refl, refl)) r refl
@@ -113,11 +113,11 @@ module _ (L : Turn → Language) where
         let (p, o, r) = reached_run h in
         let (q, o₂, l) = begun k in
         let (w, j) = from_side (other m) in
-        record { before = p; after = q ++ w; front_open = o; back_open = tt; word = simp (e, append_assoc) (simp append_assoc at (run_append (run_more r l) j)) }
+        part p (q ++ w) o tt (simp (e, append_assoc) (simp append_assoc at (run_append (run_more r l) j)))
     loop_from true true u (inr (e, m, k)) =
         let (w₁, r) = to_side m in
         let (w₂, j) = from_side (other m) in
-        record { before = w₁ ++ k.before; after = k.after ++ w₂; front_open = tt; back_open = tt; word = simp append_assoc (simp append_assoc at (run_append (run_more r k.word) j)) }
+        part (w₁ ++ k.before) (k.after ++ w₂) tt tt (simp append_assoc (simp append_assoc at (run_append (run_more r k.word) j)))
     loop_from false true u (inr (e, m, k)) = absurd cc
 
 -- ---- the last piece

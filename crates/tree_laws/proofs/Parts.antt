@@ -31,18 +31,21 @@ pub record Part (front back : Bool) (L : Language) (u : List ℕ) : Type 0 where
   pub back_open : Open back after
   pub word : L (before ++ (u ++ after))
 
+pub part : {f b : Bool} {L : Language} {u : List ℕ} (p q : List ℕ) → Open f p → Open b q → L (p ++ (u ++ q)) → Part f b L u
+part p q front back l = record { before = p; after = q; front_open = front; back_open = back; word = l }
+
 pub widen : (f b : Bool) {L : Language} {u : List ℕ} → Part f b L u → Part true true L u
-widen f b h = record { before = h.before; after = h.after; front_open = tt; back_open = tt; word = h.word }
+widen f b h = part h.before h.after tt tt h.word
 
 pub part_map : {f b : Bool} {K : Language} (L : Language) {u : List ℕ} → ((w : List ℕ) → K w → L w) → Part f b K u → Part f b L u
-part_map L g h = record { before = h.before; after = h.after; front_open = h.front_open; back_open = h.back_open; word = g _ h.word }
+part_map L g h = part h.before h.after h.front_open h.back_open (g _ h.word)
 
 -- a part with one side closed
 pub ending : (f : Bool) (L : Language) (p u : List ℕ) → Open f p → L (p ++ u) → Part f false L u
-ending f L p u o l = record { before = p; after = []; front_open = o; back_open = refl; word = rw append-nil l }
+ending f L p u o l = part p [] o refl (rw append-nil l)
 
 pub beginning : (b : Bool) (L : Language) (u q : List ℕ) → Open b q → L (u ++ q) → Part false b L u
-beginning b L u q o l = record { before = []; after = q; front_open = refl; back_open = o; word = l }
+beginning b L u q o l = part [] q refl o l
 
 pub ended : {f : Bool} {L : Language} {u : List ℕ} → Part f false L u → (p : List ℕ) × Open f p × L (p ++ u)
 ended {f} {L} {u} h = (h.before, h.front_open, simp (h.back_open, append-nil) at h.word)
@@ -57,7 +60,7 @@ pub of_whole : {L : Language} {u : List ℕ} → L u → Part false false L u
 of_whole {L} {u} l = ending false L [] u refl l
 
 pub contained : {L : Language} {u w : List ℕ} (p q : List ℕ) → L w → w ≡ p ++ (u ++ q) → Part true true L u
-contained {L} {u} p q l e = record { before = p; after = q; front_open = tt; back_open = tt; word = rw e at l }
+contained {L} {u} p q l e = part p q tt tt (rw e at l)
 
 -- ---- choice
 
@@ -67,8 +70,8 @@ Either A B w = A w ⊎ B w
 module _ {f b : Bool} {A B : Language} {u : List ℕ} where
   pub choice_to : Part f b (Either A B) u → Part f b A u ⊎ Part f b B u
   choice_to h =
-      ⊎_elim (λ l. inl (record { before = h.before; after = h.after; front_open = h.front_open; back_open = h.back_open; word = l }))
-      (λ l. inr (record { before = h.before; after = h.after; front_open = h.front_open; back_open = h.back_open; word = l })) h.word
+      ⊎_elim (λ l. inl (part h.before h.after h.front_open h.back_open l))
+      (λ l. inr (part h.before h.after h.front_open h.back_open l)) h.word
 
   pub choice_from : Part f b A u ⊎ Part f b B u → Part f b (Either A B) u
   choice_from = ⊎_elim (part_map (Either A B) (λ w l. inl l)) (part_map (Either A B) (λ w l. inr l))
@@ -86,12 +89,12 @@ pub data Joined (f b : Bool) (A B : Language) (u : List ℕ) : Type 0 where
 
 module _ {A B : Language} where
   cut_after : (f b : Bool) (u p s y : List ℕ) → Open f p → Open b s → Open b y → A (p ++ (u ++ s)) → B y → Joined f b A B u
-  cut_after f true u p s y of os oy a c = in_first refl (record { before = p; after = s; front_open = of; back_open = tt; word = a })
-  cut_after f false u p s y of os oy a c = across u [] (simp append-nil) (record { before = p; after = s; front_open = of; back_open = os; word = a }) (of_whole (rw oy at c))
+  cut_after f true u p s y of os oy a c = in_first refl (part p s of tt a)
+  cut_after f false u p s y of os oy a c = across u [] (simp append-nil) (part p s of os a) (of_whole (rw oy at c))
 
   cut_before : (f b : Bool) (u x s q : List ℕ) → Open f x → Open f s → Open b q → A x → B (s ++ (u ++ q)) → Joined f b A B u
-  cut_before true b u x s q ox os ob a c = in_second refl (record { before = s; after = q; front_open = tt; back_open = ob; word = c })
-  cut_before false b u x s q ox os ob a c = across [] u refl (of_whole (rw ox at a)) (record { before = s; after = q; front_open = os; back_open = ob; word = c })
+  cut_before true b u x s q ox os ob a c = in_second refl (part s q tt ob c)
+  cut_before false b u x s q ox os ob a c = across [] u refl (of_whole (rw ox at a)) (part s q os ob c)
 
   pub sequence_to : (f b : Bool) (u : List ℕ) → Part f b (Then A B) u → Joined f b A B u
   sequence_to f b u h =
@@ -108,12 +111,12 @@ module _ {A B : Language} where
   sequence_from sa sb f b u (across x y e h k) =
       let (p, op, a) = ended h in
       let (q, oq, c) = begun k in
-      record { before = p; after = q; front_open = op; back_open = oq; word = (p ++ x, y ++ q, simp (e, append_assoc), a, c) }
+      part p q op oq (p ++ x, y ++ q, simp (e, append_assoc), a, c)
   sequence_from sa (w, c) f true u (in_first e h) =
-      record { before = h.before; after = h.after ++ w; front_open = h.front_open; back_open = tt; word = (h.before ++ (u ++ h.after), w, simp append_assoc, h.word, c) }
+      part h.before (h.after ++ w) h.front_open tt (h.before ++ (u ++ h.after), w, simp append_assoc, h.word, c)
   sequence_from sa sb f false u (in_first e h) = absurd cc
   sequence_from (w, a) sb true b u (in_second e h) =
-      record { before = w ++ h.before; after = h.after; front_open = tt; back_open = h.back_open; word = (w, h.before ++ (u ++ h.after), simp append_assoc, a, h.word) }
+      part (w ++ h.before) h.after tt h.back_open (w, h.before ++ (u ++ h.after), simp append_assoc, a, h.word)
   sequence_from sa sb false b u (in_second e h) = absurd cc
 
 -- ---- interleaving
@@ -178,16 +181,10 @@ module _ {A B : Language} (f b : Bool) (u : List ℕ) where
         s.x₁,
         s.y₁,
         s.low,
-        record { before = r.x₁; after = s.x₂; front_open = front.0; back_open = back.0; word = rw (r.x_cut, s.x_cut) at a },
-        record { before = r.y₁; after = s.y₂; front_open = front.1; back_open = back.1; word = rw (r.y_cut, s.y_cut) at c },
+        part r.x₁ s.x₂ front.0 back.0 (rw (r.x_cut, s.x_cut) at a),
+        part r.y₁ s.y₂ front.1 back.1 (rw (r.y_cut, s.y_cut) at c),
       )
 
   pub parallel_from : Shared f b A B u → Part f b (Interleaved A B) u
   parallel_from (x, y, i, h, k) =
-      record {
-        before = h.before ++ k.before;
-        after = h.after ++ k.after;
-        front_open = open_join f h.before k.before h.front_open k.front_open;
-        back_open = open_join b h.after k.after h.back_open k.back_open;
-        word = (h.before ++ (x ++ h.after), k.before ++ (y ++ k.after), interleaving_append (one_after_other h.before k.before) (interleaving_append i (one_after_other h.after k.after)), h.word, k.word);
-      }
+      part (h.before ++ k.before) (h.after ++ k.after) (open_join f h.before k.before h.front_open k.front_open) (open_join b h.after k.after h.back_open k.back_open) (h.before ++ (x ++ h.after), k.before ++ (y ++ k.after), interleaving_append (one_after_other h.before k.before) (interleaving_append i (one_after_other h.after k.after)), h.word, k.word)
