@@ -40,7 +40,7 @@ module _ (n k : ℕ) (t : List Node) (few : n ≤ 12) (wide : 2 ≤ k) (wf : Wel
     unplayed = λ i u four moves fits l no. absurd (omega arith);
     pending = λ i u four moves fits l.
         let not_held : 0 < f (code n (with_marks i u)) → ⊥ =
-            λ held. let r = h.only (code n (with_marks i u)) held in omega (arith, with_marks_below n few k i u moves fits, node_key_high n k r.node r.word r.from_one, r.key_is) in
+        λ held. let r = h.only (code n (with_marks i u)) held in omega (arith, with_marks_below n few k i u moves fits, node_key_high n k r.node r.word r.from_one, r.key_is) in
         omega (arith, not_held);
     only = λ key held. inl (h.only key held);
   }
