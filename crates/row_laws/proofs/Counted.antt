@@ -13,8 +13,9 @@ use Rattle.tree_laws.proofs.Computed.{bits_at}
 use Rattle.tree_laws.proofs.Windows.{node_laws_lem}
 use Rattle.row_laws.specs.Lists.{Distinct}
 use Rattle.row_laws.specs.Rows.{key_limit, WindowRow, HasRow, RowsAt, MoreRows, ListsPlayable, PlayableCount}
+use Rattle.row_laws.proofs.Keys.{code_of_moves}
 use Rattle.row_laws.proofs.Distinct.{distinct_fits, keys_below, keys_below_held, has_keys_below, distinct_keys_below, length_keys_below, held_fits, has_map, map_has, distinct_map}
-use Rattle.row_laws.proofs.WithMarks.{moves_below, window_word, playable_window}
+use Rattle.row_laws.proofs.WithMarks.{window_word, playable_window}
 use Rattle.row_laws.proofs.Windowed.{node_key_high}
 
 -- the word of a code
@@ -87,7 +88,7 @@ module _ (n k : ℕ) (t : List Node) (few : n ≤ 12) (wide : 2 ≤ k) (wf : Wel
         let moves : Moves n r.word = (node_laws_lem n t wf r.node r.from_one r.inside).moves r.word r.contained in
         let bits = bits_at t r.node r.word _ (rows.standings r.node r.word r.from_one r.inside moves r.short) in
         let scaled : r.node * base n ^ k ≤ length t * base n ^ k = mul-le-mul_right (base n ^ k) r.inside in
-        (omega (arith, scaled, r.key_is, add-mul (length t) 1 (base n ^ k), moves_below n few k r.word moves r.short), grind (arith, bits.none.0, r.contained, r.key_is))
+        (omega (arith, scaled, r.key_is, add-mul (length t) 1 (base n ^ k), code_of_moves n k few r.word moves r.short), grind (arith, bits.none.0, r.contained, r.key_is))
     row_held key (inr r) = (
       omega (arith, r.key_is, add-mul (length t) 1 (base n ^ k), window_below r.window r.is_window),
       omega (arith, ap f r.key_is, rows.played r.window r.is_window r.playable),

@@ -76,12 +76,9 @@ module _ (n : ℕ) (few : n ≤ 12) where
     pub with_marks_below : (i : ℕ) (u : List ℕ) → Moves n u → Fits k i (length u) → code n (with_marks i u) < base n ^ k
     with_marks_below i u moves fits = code_below n few k (with_marks i u) (with_marks_word i u moves fits)
 
-    pub moves_below : (u : List ℕ) → Moves n u → length u ≤ k → code n u < base n ^ k
-    moves_below = code_of_moves n k few
-
     -- the turn of a window lies below four times the base's power
     pub turn_below : (i : ℕ) (u : List ℕ) → i < 4 → Moves n u → Fits k i (length u) → turn n i u < 4 * base n ^ k
-    turn_below i u four moves fits = omega (arith, moves_below u moves (fits_short k i (length u) fits))
+    turn_below i u four moves fits = omega (arith, code_of_moves n k few u moves (fits_short k i (length u) fits))
 
 module _ (n k : ℕ) (x : List ℕ) where
   marking_of_shape : (w : List ℕ) → Moves n w → Shape k w x → Marking n k x

@@ -69,9 +69,7 @@ Either A B w = A w ⊎ B w
 
 module _ {f b : Bool} {A B : Language} {u : List ℕ} where
   pub choice_to : Part f b (Either A B) u → Part f b A u ⊎ Part f b B u
-  choice_to h =
-      ⊎_elim (λ l. inl (part h.before h.after h.front_open h.back_open l))
-      (λ l. inr (part h.before h.after h.front_open h.back_open l)) h.word
+  choice_to h = ⊎_elim (λ l. inl (part h.before h.after h.front_open h.back_open l)) (λ l. inr (part h.before h.after h.front_open h.back_open l)) h.word
 
   pub choice_from : Part f b A u ⊎ Part f b B u → Part f b (Either A B) u
   choice_from = ⊎_elim (part_map (Either A B) (λ w l. inl l)) (part_map (Either A B) (λ w l. inr l))
@@ -187,4 +185,7 @@ module _ {A B : Language} (f b : Bool) (u : List ℕ) where
 
   pub parallel_from : Shared f b A B u → Part f b (Interleaved A B) u
   parallel_from (x, y, i, h, k) =
-      part (h.before ++ k.before) (h.after ++ k.after) (open_join f h.before k.before h.front_open k.front_open) (open_join b h.after k.after h.back_open k.back_open) (h.before ++ (x ++ h.after), k.before ++ (y ++ k.after), interleaving_append (one_after_other h.before k.before) (interleaving_append i (one_after_other h.after k.after)), h.word, k.word)
+      let front = open_join f h.before k.before h.front_open k.front_open in
+      let back = open_join b h.after k.after h.back_open k.back_open in
+      let mixed = interleaving_append (one_after_other h.before k.before) (interleaving_append i (one_after_other h.after k.after)) in
+      part (h.before ++ k.before) (h.after ++ k.after) front back (h.before ++ (x ++ h.after), k.before ++ (y ++ k.after), mixed, h.word, k.word)
