@@ -1,8 +1,10 @@
 -- How long a list without repeats can be, the list of the held keys, and maps of lists without repeats.
-use Rattle.std.proofs.Common.{◌≡◌, ℕ, zero, suc, ◌+◌, ◌<◌, ◌≤◌, ◌⊎◌, List, [], ◌∷◌, ◌++◌, map, length, All, Contains, sym, refl, ap, ◌∙◌, subst, inl, inr, ⊎_elim, arith, length-append}
-use Rattle.std.proofs.lemmas.List.Elements.{All-contains}
+use Rattle.std.proofs.Common.{◌≡◌, ℕ, zero, suc, ◌<◌, ◌≤◌, ◌⊎◌, List, [], ◌∷◌, ◌++◌, map, length, All, Contains, refl, ap, ◌∙◌, ⊎_elim, arith, length-append}
+use Rattle.std.proofs.lemmas.List.Elements.{All-contains, Contains-append_left, Contains-append_right, Contains-append_cases}
+use Rattle.std.proofs.lemmas.List.{length-map}
 use Rattle.std.proofs.lemmas.Bool.{cases_eq}
-use Rattle.racks.specs.Views.{one_if_held, held_count}
+use Rattle.std.proofs.lemmas.Grind.{common_steps}
+use Rattle.racks.specs.Views.{held_count}
 use Rattle.row_laws.specs.Lists.{Distinct}
 
 module _ {X : Type 0} where
@@ -13,36 +15,24 @@ module _ {X : Type 0} where
   has_rest y xs x (k, l, at) = (suc k, omega arith, at)
 
   pub has_cases : (y : X) (xs : List X) (x : X) → Contains (y ∷ xs) x → (y ≡ x) ⊎ Contains xs x
-  has_cases y xs x (zero, l, at) = inl at
-  has_cases y xs x (suc k, l, at) = inr (k, omega arith, at)
-
-  pub has_none : (x : X) → Contains [] x → ⊥
-  has_none x (k, l, at) = omega arith
+  has_cases y xs x h = grind (arith, common_steps)
 
   -- what stands in a list has a part before it and a part after it
   has_split : (ys : List X) (x : X) → Contains ys x → (a : List X) × (b : List X) × (ys ≡ a ++ (x ∷ b))
-  has_split [] x h = absurd (has_none x h)
-  has_split (y ∷ ys) x (zero, l, at) = ([], ys, ap (λ z. z ∷ ys) at)
-  has_split (y ∷ ys) x (suc k, l, at) = let (a, b, e) = has_split ys x (k, omega arith, at) in (y ∷ a, b, ap (λ z. y ∷ z) e)
+  has_split [] x h = absurd (omega arith)
+  has_split (y ∷ ys) x (zero, l, at) = ([], ys, cc)
+  has_split (y ∷ ys) x (suc k, l, at) = let (a, b, e) = has_split ys x (k, omega arith, at) in (y ∷ a, b, cc)
 
   has_without : (a b : List X) (x z : X) → Contains (a ++ (x ∷ b)) z → (x ≡ z) ⊎ Contains (a ++ b) z
-  has_without [] b x z h = has_cases x b z h
-  has_without (y ∷ a) b x z h =
-      ⊎_elim (λ e. inr (subst (Contains (y ∷ (a ++ b))) e (has_first y (a ++ b))))
-      (λ k. ⊎_elim inl (λ r. inr (has_rest y (a ++ b) z r)) (has_without a b x z k))
-      (has_cases y (a ++ (x ∷ b)) z h)
+  has_without a b x z h = grind (arith, Contains-append_left a b z, Contains-append_right a b z, has_cases x b z, Contains-append_cases a (x ∷ b) z h)
 
   -- a list without repeats whose items another list has is not longer
   pub distinct_fits : (xs ys : List X) → Distinct xs → ((x : X) → Contains xs x → Contains ys x) → length xs ≤ length ys
   distinct_fits [] ys apart within = omega arith
   distinct_fits (x ∷ xs) ys apart within =
       let (a, b, e) = has_split ys x (within x (has_first x xs)) in
-      omega (arith, ap length e ∙ length-append a (x ∷ b), length-append a b, distinct_fits xs (a ++ b) apart.1 (others a b e))
-    where
-      others : (a b : List X) → ys ≡ a ++ (x ∷ b) → (z : X) → Contains xs z → Contains (a ++ b) z
-      others a b e z h =
-          ⊎_elim (λ same. absurd (apart.0 (subst (Contains xs) (sym same) h))) (λ r. r)
-          (has_without a b x z (subst (λ l. Contains l z) e (within z (has_rest x xs z h))))
+      let fits = distinct_fits xs (a ++ b) apart.1 (λ z h. grind (arith, has_without a b x z, within z (has_rest x xs z h))) in
+      omega (arith, ap length e ∙ length-append a (x ∷ b), length-append a b, fits)
 
 -- m before the keys, if its number is not 0
 abbrev pub with_held : ℕ → ℕ → List ℕ → List ℕ
@@ -54,53 +44,36 @@ unfoldable pub keys_below : (ℕ → ℕ) → ℕ → List ℕ
 keys_below f zero = []
 keys_below f (suc m) = with_held (f m) m (keys_below f m)
 
-has_with_held : (v m : ℕ) (keys : List ℕ) (key : ℕ) → Contains (with_held v m keys) key → ((m ≡ key) × (0 < v)) ⊎ Contains keys key
-has_with_held zero m keys key h = inr h
-has_with_held (suc v) m keys key h = ⊎_elim (λ e. inl (e, omega arith)) inr (has_cases m keys key h)
-
 with_held_has : (v m : ℕ) (keys : List ℕ) (key : ℕ) → Contains keys key → Contains (with_held v m keys) key
 with_held_has zero m keys key h = h
 with_held_has (suc v) m keys key h = has_rest m keys key h
 
 with_held_first : (v m : ℕ) (keys : List ℕ) → 0 < v → Contains (with_held v m keys) m
-with_held_first zero m keys h = absurd (omega arith)
-with_held_first (suc v) m keys h = has_first m keys
-
-distinct_with_held : (v m : ℕ) (keys : List ℕ) → (Contains keys m → ⊥) → Distinct keys → Distinct (with_held v m keys)
-distinct_with_held zero m keys new apart = apart
-distinct_with_held (suc v) m keys new apart = (new, apart)
-
-length_with_held : (v m : ℕ) (keys : List ℕ) → length (with_held v m keys) ≡ length keys + one_if_held v
-length_with_held zero m keys = omega arith
-length_with_held (suc v) m keys = omega arith
+with_held_first v m keys held = grind (arith, has_first)
 
 module _ (f : ℕ → ℕ) where
   pub keys_below_held : (m key : ℕ) → Contains (keys_below f m) key → (key < m) × (0 < f key)
   unfolding keys_below
-  keys_below_held zero key h = absurd (has_none key h)
-  keys_below_held (suc m) key h =
-      ⊎_elim (λ (e, held). (omega arith, subst (λ z. 0 < f z) e held))
-      (λ k. let r = keys_below_held m key k in (omega arith, r.1))
-      (has_with_held (f m) m (keys_below f m) key h)
+  keys_below_held zero key h = absurd (omega arith)
+  keys_below_held (suc m) key h = grind (arith, common_steps, keys_below_held m key)
 
   pub has_keys_below : (m key : ℕ) → key < m → 0 < f key → Contains (keys_below f m) key
   unfolding keys_below
   has_keys_below zero key low held = absurd (omega arith)
   has_keys_below (suc m) key low held =
-      ⊎_elim (λ e. subst (Contains (with_held (f m) m (keys_below f m))) (sym e) (with_held_first (f m) m (keys_below f m) (subst (λ z. 0 < f z) e held)))
+      ⊎_elim (λ e. rw e (with_held_first (f m) m (keys_below f m) (rw e at held)))
       (λ ne. with_held_has (f m) m (keys_below f m) key (has_keys_below m key (omega arith) held))
       (cases_eq key m)
 
   pub distinct_keys_below : (m : ℕ) → Distinct (keys_below f m)
   unfolding keys_below
   distinct_keys_below zero = tt
-  distinct_keys_below (suc m) =
-      distinct_with_held (f m) m (keys_below f m) (λ h. let r = keys_below_held m m h in omega arith) (distinct_keys_below m)
+  distinct_keys_below (suc m) = grind (arith, common_steps, keys_below_held m m, distinct_keys_below m)
 
   pub length_keys_below : (m : ℕ) → length (keys_below f m) ≡ held_count f m
   unfolding keys_below held_count
   length_keys_below zero = refl
-  length_keys_below (suc m) = length_with_held (f m) m (keys_below f m) ∙ ap (λ c. c + one_if_held (f m)) (length_keys_below m)
+  length_keys_below (suc m) = grind (arith, common_steps, length_keys_below m)
 
   -- different held keys below m are no more than all of them
   pub held_fits : (m : ℕ) (keys : List ℕ) → Distinct keys → All (λ key. (key < m) × (0 < f key)) keys → length keys ≤ held_count f m
@@ -108,19 +81,15 @@ module _ (f : ℕ → ℕ) where
       omega (
         arith,
         length_keys_below m,
-        distinct_fits keys (keys_below f m) apart (λ key h. let r = All-contains (λ z. (z < m) × (0 < f z)) keys key held h in has_keys_below m key r.0 r.1),
+        distinct_fits keys (keys_below f m) apart (λ key h. grind (arith, All-contains (λ z. (z < m) × (0 < f z)) keys key held h, has_keys_below m key)),
       )
 
 module _ {X Y : Type 0} (g : X → Y) where
   pub has_map : (xs : List X) (x : X) → Contains xs x → Contains (map g xs) (g x)
-  has_map [] x h = absurd (has_none x h)
-  has_map (y ∷ xs) x h =
-      ⊎_elim (λ e. subst (λ z. Contains (map g (y ∷ xs)) (g z)) e (has_first (g y) (map g xs)))
-      (λ k. has_rest (g y) (map g xs) (g x) (has_map xs x k))
-      (has_cases y xs x h)
+  has_map xs x (k, l, at) = (k, simp length-map l, grind (arith, common_steps))
 
   pub map_has : (xs : List X) (y : Y) → Contains (map g xs) y → (x : X) × Contains xs x × (g x ≡ y)
-  map_has [] y h = absurd (has_none y h)
+  map_has [] y h = absurd (omega arith)
   map_has (x ∷ xs) y h =
       ⊎_elim (λ e. (x, has_first x xs, e))
       (λ k. let (z, has, e) = map_has xs y k in (z, has_rest x xs z has, e))
@@ -130,8 +99,6 @@ module _ {X Y : Type 0} (g : X → Y) where
   pub distinct_map : (xs : List X) → ((a b : X) → Contains xs a → Contains xs b → g a ≡ g b → a ≡ b) → Distinct xs → Distinct (map g xs)
   distinct_map [] tells apart = tt
   distinct_map (x ∷ xs) tells apart = (
-    λ h.
-        let (z, has, e) = map_has xs (g x) h in
-        apart.0 (subst (Contains xs) (tells z x (has_rest x xs z has) (has_first x xs) e) has),
+    λ h. let (z, has, e) = map_has xs (g x) h in apart.0 (rw (tells z x (has_rest x xs z has) (has_first x xs) e) at has),
     distinct_map xs (λ a b ha hb. tells a b (has_rest x xs a ha) (has_rest x xs b hb)) apart.1,
   )

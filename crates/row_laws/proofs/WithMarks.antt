@@ -1,10 +1,10 @@
 -- The words of moves with their marks: their codes, that these tell them apart, and that they are exactly the windows.
-use Rattle.std.proofs.Common.{◌≡◌, ℕ, zero, suc, ◌*◌, ◌^◌, ◌<◌, ◌≤◌, Bool, cond, eqb, ltb, List, [], ◌∷◌, ◌++◌, length, Decides, All, sum_by, filter, sym, refl, ap, ◌∙◌, subst, inl, inr, append-nil, arith}
+use Rattle.std.proofs.Common.{◌≡◌, ℕ, zero, suc, ◌*◌, ◌^◌, ◌<◌, ◌≤◌, Bool, cond, eqb, ltb, List, [], ◌∷◌, ◌++◌, length, Decides, All, sum_by, filter, refl, append-nil, arith}
 use Rattle.std.proofs.lemmas.List.Elements.{All-cons, All-head, All-push, All-tail, filter-append}
 use Rattle.std.proofs.lemmas.List.{length_push}
 use Rattle.std.proofs.lemmas.List.Sums.{sum_by-cons, sum_by_push}
-use Rattle.std.proofs.lemmas.Bool.{lt-ltb, ne_eqb}
-use Rattle.std.proofs.lemmas.Bool.Decides.{not_from_Decides}
+use Rattle.std.proofs.lemmas.Bool.Decides.{not_from_Decides, nat_tests}
+use Rattle.std.proofs.lemmas.Grind.{common_steps}
 use Rattle.terms.specs.Codes.{Item, Word, base, code}
 use Rattle.terms.specs.Words.{Move, Moves, start_mark, end_mark, IsWindow}
 use Rattle.terms.proofs.Codes.{code_apart, code_below}
@@ -14,7 +14,7 @@ use Rattle.tree_laws.specs.Computed.{has}
 use Rattle.tree_laws.specs.Facts.{Playable, Standing}
 use Rattle.tree_laws.specs.Routes.{WellFormed}
 use Rattle.tree_laws.proofs.Nodes.{route_moves}
-use Rattle.tree_laws.proofs.Rows.{played_at}
+use Rattle.tree_laws.proofs.Rows.{PlayedAt, played_at}
 use Rattle.terms.proofs.Ends.{all_parts}
 use Rattle.row_laws.specs.Windowed.{with_marks, Fits, turn}
 use Rattle.row_laws.proofs.Keys.{items_from_moves, code_of_moves, same_word}
@@ -29,10 +29,7 @@ pub record Marking (n k : ℕ) (x : List ℕ) : Type 0 where
   pub is : x ≡ with_marks marks word
 
 pub fits_short : (k i len : ℕ) → Fits k i len → len ≤ k
-fits_short k zero len h = omega arith
-fits_short k (suc zero) len h = omega arith
-fits_short k (suc (suc zero)) len h = omega arith
-fits_short k (suc (suc (suc i))) len h = omega arith
+fits_short k i len h = grind (arith, common_steps)
 
 -- the start mark counts 1, and the end mark 2
 abbrev pub mark_value : ℕ → ℕ
@@ -43,49 +40,29 @@ no_mark x = ltb x start_mark
 
 module _ (n : ℕ) (few : n ≤ 12) where
   pub with_marks_items : (i : ℕ) (u : List ℕ) → Moves n u → All (Item n) (with_marks i u)
-  with_marks_items zero u moves = items_from_moves n u moves
-  with_marks_items (suc zero) u moves = All-cons (Item n) start_mark u (inr (inl refl)) (items_from_moves n u moves)
-  with_marks_items (suc (suc zero)) u moves = All-push (Item n) u end_mark (items_from_moves n u moves) (inr (inr refl))
-  with_marks_items (suc (suc (suc i))) u moves = All-cons (Item n) start_mark (u ++ (end_mark ∷ [])) (inr (inl refl)) (All-push (Item n) u end_mark (items_from_moves n u moves) (inr (inr refl)))
+  with_marks_items i u moves = grind (arith, items_from_moves n u, All-cons (Item n) start_mark, All-push (Item n) u end_mark)
 
   mark_values_moves : (u : List ℕ) → Moves n u → sum_by mark_value u ≡ 0
   mark_values_moves [] h = refl
-  mark_values_moves (x ∷ u) h =
-      let first : Move n x = All-head (Move n) x u h in
-      let here : mark_value x ≡ 0 = rw (ne_eqb x start_mark (λ e. omega arith), ne_eqb x end_mark (λ e. omega arith)) in
-      omega (arith, sum_by-cons mark_value x u, mark_values_moves u (All-tail (Move n) x u h))
+  mark_values_moves (x ∷ u) h = grind (arith, nat_tests, sum_by-cons mark_value x u, mark_values_moves u, All-head (Move n) x u h, All-tail (Move n) x u h)
 
   -- the marks come back
   mark_values_with_marks : (i : ℕ) (u : List ℕ) → i < 4 → Moves n u → sum_by mark_value (with_marks i u) ≡ i
-  mark_values_with_marks zero u four h = mark_values_moves u h
-  mark_values_with_marks (suc zero) u four h = omega (arith, sum_by-cons mark_value start_mark u, mark_values_moves u h)
-  mark_values_with_marks (suc (suc zero)) u four h = omega (arith, sum_by_push mark_value u end_mark, mark_values_moves u h)
-  mark_values_with_marks (suc (suc (suc i))) u four h =
-      omega (arith, sum_by-cons mark_value start_mark (u ++ (end_mark ∷ [])), sum_by_push mark_value u end_mark, mark_values_moves u h)
+  mark_values_with_marks i u four h = grind (arith, sum_by-cons mark_value start_mark, sum_by_push mark_value u end_mark, mark_values_moves u h)
 
   kept_moves : (u : List ℕ) → Moves n u → filter no_mark u ≡ u
   kept_moves [] h = refl
-  kept_moves (x ∷ u) h =
-      let first : Move n x = All-head (Move n) x u h in
-      rw (lt-ltb x start_mark (omega arith)) (ap (λ l. x ∷ l) (kept_moves u (All-tail (Move n) x u h)))
-
-  kept_pushed : (u : List ℕ) → Moves n u → filter no_mark (u ++ (end_mark ∷ [])) ≡ u
-  kept_pushed u h = filter-append no_mark u (end_mark ∷ []) ∙ append-nil (filter no_mark u) ∙ kept_moves u h
+  kept_moves (x ∷ u) h = grind (arith, nat_tests, kept_moves u, All-head (Move n) x u h, All-tail (Move n) x u h)
 
   -- the moves come back
   kept_with_marks : (i : ℕ) (u : List ℕ) → Moves n u → filter no_mark (with_marks i u) ≡ u
-  kept_with_marks zero u h = kept_moves u h
-  kept_with_marks (suc zero) u h = kept_moves u h
-  kept_with_marks (suc (suc zero)) u h = kept_pushed u h
-  kept_with_marks (suc (suc (suc i))) u h = kept_pushed u h
+  kept_with_marks i u h = grind (arith, common_steps, filter-append no_mark u, kept_moves u h)
 
   -- two windows with one code have the same marks and the same moves
   pub with_marks_apart : (i j : ℕ) (u v : List ℕ) → i < 4 → j < 4 → Moves n u → Moves n v → code n (with_marks i u) ≡ code n (with_marks j v) → (i ≡ j) × (u ≡ v)
   with_marks_apart i j u v hi hj hu hv e =
-      let same : with_marks i u ≡ with_marks j v = code_apart n few (with_marks i u) (with_marks j v) (with_marks_items i u hu) (with_marks_items j v hv) e in (
-        sym (mark_values_with_marks i u hi hu) ∙ ap (sum_by mark_value) same ∙ mark_values_with_marks j v hj hv,
-        sym (kept_with_marks i u hu) ∙ ap (filter no_mark) same ∙ kept_with_marks j v hv,
-      )
+      let same : with_marks i u ≡ with_marks j v = code_apart n few (with_marks i u) (with_marks j v) (with_marks_items i u hu) (with_marks_items j v hv) e in
+      (cc (mark_values_with_marks i u hi hu, mark_values_with_marks j v hj hv), cc (kept_with_marks i u hu, kept_with_marks j v hv))
 
   -- two windows with one turn have the same marks and the same moves
   pub turn_apart : (i j : ℕ) (u v : List ℕ) → i < 4 → j < 4 → Moves n u → Moves n v → turn n i u ≡ turn n j v → (i ≡ j) × (u ≡ v)
@@ -93,59 +70,25 @@ module _ (n : ℕ) (few : n ≤ 12) where
 
   module _ (k : ℕ) where
     pub with_marks_word : (i : ℕ) (u : List ℕ) → Moves n u → Fits k i (length u) → Word n k (with_marks i u)
-    with_marks_word i u moves fits = record { items = with_marks_items i u moves; short = short i fits }
-      where
-        short : (j : ℕ) → Fits k j (length u) → length (with_marks j u) ≤ k
-        short zero h = omega arith
-        short (suc zero) h = omega arith
-        short (suc (suc zero)) h = omega (arith, length_push u end_mark)
-        short (suc (suc (suc j))) h = omega (arith, length_marked u)
+    with_marks_word i u moves fits = record { items = with_marks_items i u moves; short = grind (arith, common_steps, length_push u end_mark, length_marked u) }
 
     -- the code of a window lies below the base's power
     pub with_marks_below : (i : ℕ) (u : List ℕ) → Moves n u → Fits k i (length u) → code n (with_marks i u) < base n ^ k
     with_marks_below i u moves fits = code_below n few k (with_marks i u) (with_marks_word i u moves fits)
 
-    pub moves_below : (u : List ℕ) → Moves n u → length u ≤ k → code n u < base n ^ k
-    moves_below = code_of_moves n k few
-
     -- the turn of a window lies below four times the base's power
     pub turn_below : (i : ℕ) (u : List ℕ) → i < 4 → Moves n u → Fits k i (length u) → turn n i u < 4 * base n ^ k
-    turn_below i u four moves fits = omega (arith, moves_below u moves (fits_short k i (length u) fits))
+    turn_below i u four moves fits = omega (arith, code_of_moves n k few u moves (fits_short k i (length u) fits))
 
 module _ (n k : ℕ) (x : List ℕ) where
   marking_of_shape : (w : List ℕ) → Moves n w → Shape k w x → Marking n k x
-  marking_of_shape w moves (whole h e) = record {
-    marks = 3;
-    word = w;
-    four = omega arith;
-    moves = moves;
-    fits = omega (arith, length_marked w);
-    is = e;
-  }
-  marking_of_shape w moves (at_front p (after, split) long is) = record {
-    marks = 1;
-    word = p;
-    four = omega arith;
-    moves = (all_parts (Move n) p after (subst (Moves n) split moves)).0;
-    fits = omega arith;
-    is = is;
-  }
-  marking_of_shape w moves (at_back p (before, split) long is) = record {
-    marks = 2;
-    word = p;
-    four = omega arith;
-    moves = (all_parts (Move n) before p (subst (Moves n) split moves)).1;
-    fits = omega arith;
-    is = is;
-  }
-  marking_of_shape w moves (inside (before, after, split) long) = record {
-    marks = 0;
-    word = x;
-    four = omega arith;
-    moves = (all_parts (Move n) x after (all_parts (Move n) before (x ++ after) (subst (Moves n) split moves)).1).0;
-    fits = long;
-    is = refl;
-  }
+  marking_of_shape w moves (whole h e) = record { marks = 3; word = w; four = omega arith; moves = moves; fits = omega (arith, length_marked w); is = e }
+  marking_of_shape w moves (at_front p (after, split) long is) =
+      record { marks = 1; word = p; four = omega arith; moves = (all_parts (Move n) p after (rw split at moves)).0; fits = omega arith; is = is }
+  marking_of_shape w moves (at_back p (before, split) long is) =
+      record { marks = 2; word = p; four = omega arith; moves = (all_parts (Move n) before p (rw split at moves)).1; fits = omega arith; is = is }
+  marking_of_shape w moves (inside (before, after, split) long) =
+      record { marks = 0; word = x; four = omega arith; moves = (all_parts (Move n) x after (all_parts (Move n) before (x ++ after) (rw split at moves)).1).0; fits = long; is = refl }
 
   pub marking_of_window : 2 ≤ k → IsWindow n k x → Marking n k x
   marking_of_window wide h =
@@ -153,8 +96,8 @@ module _ (n k : ℕ) (x : List ℕ) where
       marking_of_shape w moves (shape_of k w x (omega arith) of)
 
   shape_of_marking : (i : ℕ) (u : List ℕ) → Fits k i (length u) → x ≡ with_marks i u → Shape k u x
-  shape_of_marking zero u fits is = inside ([], [], sym (append-nil x ∙ is)) (ap length is ∙ fits)
-  shape_of_marking (suc zero) u fits is = at_front u ([], sym (append-nil u)) (omega arith) is
+  shape_of_marking zero u fits is = inside ([], [], simp (is, append-nil)) (cc)
+  shape_of_marking (suc zero) u fits is = at_front u ([], simp append-nil) (omega arith) is
   shape_of_marking (suc (suc zero)) u fits is = at_back u ([], refl) (omega arith) is
   shape_of_marking (suc (suc (suc i))) u fits is = whole (omega (arith, length_marked u)) is
 
@@ -165,7 +108,7 @@ module _ (n k : ℕ) (x : List ℕ) where
   pub window_word : n ≤ 12 → 2 ≤ k → IsWindow n k x → Word n k x
   window_word few wide h =
       let r = marking_of_window wide h in
-      subst (Word n k) (sym r.is) (with_marks_word n few k r.marks r.word r.moves r.fits)
+      rw r.is (with_marks_word n few k r.marks r.word r.moves r.fits)
 
 module _ (n k : ℕ) (few : n ≤ 12) (wide : 2 ≤ k) (t : List Node) (wf : WellFormed n t) where
   -- what is playable is a window
@@ -173,14 +116,17 @@ module _ (n k : ℕ) (few : n ≤ 12) (wide : 2 ≤ k) (t : List Node) (wf : Wel
   playable_window x (w, route, of) = window_from_moves n k x w (route_moves n t wf route) of
 
   module _ (u : List ℕ) (s : ℕ) (moves : Moves n u) (standing : Standing t (length t) u s) where
+    at_root : PlayedAt k t u s
+    at_root = played_at n k t (omega arith) wide wf u s moves standing
+
     -- the bits of the standing of u at the root tell which windows around u are playable
     pub with_marks_decides : (i : ℕ) → i < 4 → Fits k i (length u) → Decides (has s (2 ^ i)) (Playable t k (with_marks i u))
-    with_marks_decides zero four fits = (played_at n k t (omega arith) wide wf u s moves standing).no_mark fits
-    with_marks_decides (suc zero) four fits = (played_at n k t (omega arith) wide wf u s moves standing).after_start fits
-    with_marks_decides (suc (suc zero)) four fits = (played_at n k t (omega arith) wide wf u s moves standing).before_end fits
-    with_marks_decides (suc (suc (suc zero))) four fits = (played_at n k t (omega arith) wide wf u s moves standing).both_marks fits
+    with_marks_decides zero four fits = at_root.no_mark fits
+    with_marks_decides (suc zero) four fits = at_root.after_start fits
+    with_marks_decides (suc (suc zero)) four fits = at_root.before_end fits
+    with_marks_decides (suc (suc (suc zero))) four fits = at_root.both_marks fits
     with_marks_decides (suc (suc (suc (suc i)))) four fits = absurd (omega arith)
 
     -- around a word with the standing 0 nothing is playable
     pub with_marks_none : (i : ℕ) → i < 4 → Fits k i (length u) → s ≡ 0 → Playable t k (with_marks i u) → ⊥
-    with_marks_none i four fits none = not_from_Decides (has s (2 ^ i)) (with_marks_decides i four fits) (ap (λ z. has z (2 ^ i)) none)
+    with_marks_none i four fits none = not_from_Decides (has s (2 ^ i)) (with_marks_decides i four fits) (rw none)

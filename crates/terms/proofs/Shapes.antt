@@ -1,5 +1,5 @@
 -- Which shapes the windows of a marked list have, and that a list of bytes is a window exactly when it has one of them.
-use Rattle.std.proofs.Common.{◌≡◌, ℕ, suc, ◌+◌, ◌<◌, ◌≤◌, ◌⊎◌, List, [], ◌∷◌, ◌++◌, length, sym, refl, ap, ◌∙◌, inl, inr, ⊎_elim, append_assoc, append-nil, arith, length-append}
+use Rattle.std.proofs.Common.{◌≡◌, ℕ, suc, ◌+◌, ◌<◌, ◌≤◌, ◌⊎◌, List, [], ◌∷◌, ◌++◌, length, refl, ap, ◌∙◌, inl, inr, ⊎_elim, append_assoc, append-nil, arith, length-append}
 use Rattle.std.proofs.lemmas.List.{same_from_push, length_push}
 use Rattle.terms.proofs.Ends.{from_the_end}
 use Rattle.terms.specs.Words.{Moves, start_mark, end_mark, marked, HasRun, Begins, Ends, WindowOf, IsWindow}
@@ -18,9 +18,7 @@ pub data Shape (k : ℕ) (w u : List ℕ) : Type 0 where
 cut_end : (w before after : List ℕ) → w ++ (end_mark ∷ []) ≡ before ++ after → (after ≡ []) ⊎ ((v : List ℕ) × (w ≡ before ++ v) × (after ≡ v ++ (end_mark ∷ [])))
 cut_end w before after e =
     ⊎_elim inl
-    (λ r.
-    let same = same_from_push w (before ++ r.0) end_mark r.1 (e ∙ ap (λ l. before ++ l) r.2 ∙ sym (append_assoc before r.0 (r.1 ∷ []))) in
-    inr (r.0, same.0, r.2 ∙ ap (λ x. r.0 ++ (x ∷ [])) (sym same.1)))
+    (λ r. let same = same_from_push w (before ++ r.0) end_mark r.1 (simp (e, r.2, append_assoc)) in inr (r.0, same.0, rw same.1 r.2))
     (from_the_end after)
 
 module _ {k : ℕ} {w u : List ℕ} (some : 1 ≤ k) (long : length u ≡ k) (more : k < length (marked w)) where
@@ -30,12 +28,11 @@ module _ {k : ℕ} {w u : List ℕ} (some : 1 ≤ k) (long : length u ≡ k) (mo
       first : (v : List ℕ) → u ≡ v → Shape k w u
       first [] is = absurd (omega (arith, ap length is))
       first (y ∷ ys) is =
-          let here : marked w ≡ y ∷ (ys ++ after) = e ∙ ap (λ l. l ++ after) is in
-          let mark : start_mark ≡ y = cc in
+          let here : marked w ≡ y ∷ (ys ++ after) = rw is at e in
           let rest : w ++ (end_mark ∷ []) ≡ ys ++ after = cc in
           ⊎_elim
-          (λ none. absurd (omega (arith, ap length e ∙ ap (λ l. length (u ++ l)) none ∙ length-append u [])))
-          (λ r. at_front ys (r.0, r.1) (sym (ap length is) ∙ long) (is ∙ ap (λ x. x ∷ ys) (sym mark)))
+          (λ none. absurd (omega (arith, simp (none, append-nil) at (ap length e))))
+          (λ r. at_front ys (r.0, r.1) (omega (arith, ap length is)) (cc))
           (cut_end w ys after rest)
 
   shape_behind : (before after : List ℕ) → w ++ (end_mark ∷ []) ≡ before ++ (u ++ after) → Shape k w u
@@ -43,10 +40,10 @@ module _ {k : ℕ} {w u : List ℕ} (some : 1 ≤ k) (long : length u ≡ k) (mo
       ⊎_elim
       (λ none.
       ⊎_elim (λ empty. absurd (omega (arith, ap length empty)))
-      (λ r. at_back r.0 (before, r.1) (omega (arith, ap length r.2 ∙ length_push r.0 end_mark)) r.2)
-      (cut_end w before u (e ∙ ap (λ l. before ++ (u ++ l)) none ∙ ap (λ l. before ++ l) (append-nil u))))
-      (λ r. inside (before, r.0, r.1 ∙ append_assoc before u r.0) long)
-      (cut_end w (before ++ u) after (e ∙ sym (append_assoc before u after)))
+      (λ r. at_back r.0 (before, r.1) (omega (arith, simp (r.2, length_push) at long)) r.2)
+      (cut_end w before u (cc (append-nil u))))
+      (λ r. inside (before, r.0, simp append_assoc at r.1) long)
+      (cut_end w (before ++ u) after (rw append_assoc e))
 
   shape_of_run : HasRun (marked w) u → Shape k w u
   shape_of_run ([], after, e) = shape_at_front after e
@@ -61,29 +58,17 @@ window_of (whole h e) = inl (h, e)
 window_of {k} {w} {u} (at_front p (after, split) long is) = inr (
   omega (arith, length_marked w, ap length split ∙ length-append p after),
   ap length is ∙ long,
-  (
-    [],
-    after ++ (end_mark ∷ []),
-    ap marked split ∙ ap (λ l. start_mark ∷ l) (append_assoc p after (end_mark ∷ [])) ∙ sym (ap (λ l. l ++ (after ++ (end_mark ∷ []))) is),
-  ),
+  ([], after ++ (end_mark ∷ []), simp (split, is, append_assoc)),
 )
 window_of {k} {w} {u} (at_back p (before, split) long is) = inr (
   omega (arith, length_marked w, ap length split ∙ length-append before p),
-  ap length is ∙ length_push p end_mark ∙ omega arith,
-  (
-    start_mark ∷ before,
-    [],
-    ap marked split ∙ ap (λ l. start_mark ∷ l) (append_assoc before p (end_mark ∷ []) ∙ ap (λ l. before ++ l) (sym (append-nil u ∙ is))),
-  ),
+  omega (arith, ap length is ∙ length_push p end_mark),
+  (start_mark ∷ before, [], simp (split, is, append_assoc, append-nil)),
 )
 window_of {k} {w} {u} (inside (before, after, split) long) = inr (
   omega (arith, length_marked w, ap length split ∙ length-append before (u ++ after), length-append u after),
   long,
-  (
-    start_mark ∷ before,
-    after ++ (end_mark ∷ []),
-    ap marked split ∙ ap (λ l. start_mark ∷ l) (append_assoc before (u ++ after) (end_mark ∷ []) ∙ ap (λ l. before ++ l) (append_assoc u after (end_mark ∷ []))),
-  ),
+  (start_mark ∷ before, after ++ (end_mark ∷ []), simp (split, append_assoc)),
 )
 
 -- a window is what some marked list of moves has as one

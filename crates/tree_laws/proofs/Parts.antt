@@ -1,9 +1,7 @@
 -- The four facts of a word in a language, in one form; the laws of choice, sequence and interleaving.
-use Rattle.std.proofs.Common.{◌≡◌, ℕ, Bool, true, false, ◌⊎◌, List, [], ◌∷◌, ◌++◌, sym, refl, ap, ◌∙◌, subst, inl, inr, ⊎_elim, append_assoc, append-nil}
-use mathlib.Core.Bool.{false≢true}
-use mathlib.Core.List.{nil≢cons}
+use Rattle.std.proofs.Common.{◌≡◌, ℕ, Bool, true, false, ◌⊎◌, List, [], ◌∷◌, ◌++◌, refl, subst, inl, inr, ⊎_elim, append_assoc, append-nil, arith}
 use Rattle.tree_laws.specs.Routes.{Interleaving, none, from_left, from_right}
-use Rattle.tree_laws.proofs.Splits.{carry, levi, nil_parts}
+use Rattle.tree_laws.proofs.Splits.{levi, nil_parts}
 
 abbrev pub Language : Type 1
 Language = List ℕ → Type 0
@@ -17,16 +15,13 @@ Open true p = Unit {0}
 Open false p = p ≡ []
 
 pub open_parts : (f : Bool) (x y : List ℕ) → Open f (x ++ y) → Open f x × Open f y
-open_parts true x y o = (tt, tt)
-open_parts false x y o = nil_parts x y o
+open_parts f x y o = grind (arith, nil_parts x y)
 
 pub open_join : (f : Bool) (x y : List ℕ) → Open f x → Open f y → Open f (x ++ y)
-open_join true x y o₁ o₂ = tt
-open_join false x y o₁ o₂ = ap (λ z. z ++ y) o₁ ∙ o₂
+open_join f x y o₁ o₂ = grind arith
 
 pub open_nil : (f : Bool) → Open f []
-open_nil true = tt
-open_nil false = refl
+open_nil f = grind arith
 
 -- some word of L has u, with its front side open or closed and its back side open or closed
 pub record Part (front back : Bool) (L : Language) (u : List ℕ) : Type 0 where
@@ -36,33 +31,36 @@ pub record Part (front back : Bool) (L : Language) (u : List ℕ) : Type 0 where
   pub back_open : Open back after
   pub word : L (before ++ (u ++ after))
 
+pub part : {f b : Bool} {L : Language} {u : List ℕ} (p q : List ℕ) → Open f p → Open b q → L (p ++ (u ++ q)) → Part f b L u
+part p q front back l = record { before = p; after = q; front_open = front; back_open = back; word = l }
+
 pub widen : (f b : Bool) {L : Language} {u : List ℕ} → Part f b L u → Part true true L u
-widen f b h = record { before = h.before; after = h.after; front_open = tt; back_open = tt; word = h.word }
+widen f b h = part h.before h.after tt tt h.word
 
 pub part_map : {f b : Bool} {K : Language} (L : Language) {u : List ℕ} → ((w : List ℕ) → K w → L w) → Part f b K u → Part f b L u
-part_map L g h = record { before = h.before; after = h.after; front_open = h.front_open; back_open = h.back_open; word = g _ h.word }
+part_map L g h = part h.before h.after h.front_open h.back_open (g _ h.word)
 
 -- a part with one side closed
 pub ending : (f : Bool) (L : Language) (p u : List ℕ) → Open f p → L (p ++ u) → Part f false L u
-ending f L p u o l = record { before = p; after = []; front_open = o; back_open = refl; word = carry L l (simp append-nil) }
+ending f L p u o l = part p [] o refl (rw append-nil l)
 
 pub beginning : (b : Bool) (L : Language) (u q : List ℕ) → Open b q → L (u ++ q) → Part false b L u
-beginning b L u q o l = record { before = []; after = q; front_open = refl; back_open = o; word = l }
+beginning b L u q o l = part [] q refl o l
 
 pub ended : {f : Bool} {L : Language} {u : List ℕ} → Part f false L u → (p : List ℕ) × Open f p × L (p ++ u)
-ended {f} {L} {u} h = (h.before, h.front_open, carry L h.word (ap (λ z. h.before ++ (u ++ z)) h.back_open ∙ simp append-nil))
+ended {f} {L} {u} h = (h.before, h.front_open, simp (h.back_open, append-nil) at h.word)
 
 pub begun : {b : Bool} {L : Language} {u : List ℕ} → Part false b L u → (q : List ℕ) × Open b q × L (u ++ q)
-begun {b} {L} {u} h = (h.after, h.back_open, carry L h.word (ap (λ z. z ++ (u ++ h.after)) h.front_open))
+begun {b} {L} {u} h = (h.after, h.back_open, rw h.front_open at h.word)
 
 pub whole_of : {L : Language} {u : List ℕ} → Part false false L u → L u
-whole_of {L} {u} h = carry L (begun h).2 (ap (λ z. u ++ z) (begun h).1 ∙ append-nil u)
+whole_of {L} {u} h = simp (h.front_open, h.back_open, append-nil) at h.word
 
 pub of_whole : {L : Language} {u : List ℕ} → L u → Part false false L u
 of_whole {L} {u} l = ending false L [] u refl l
 
 pub contained : {L : Language} {u w : List ℕ} (p q : List ℕ) → L w → w ≡ p ++ (u ++ q) → Part true true L u
-contained {L} {u} p q l e = record { before = p; after = q; front_open = tt; back_open = tt; word = carry L l e }
+contained {L} {u} p q l e = part p q tt tt (rw e at l)
 
 -- ---- choice
 
@@ -71,9 +69,7 @@ Either A B w = A w ⊎ B w
 
 module _ {f b : Bool} {A B : Language} {u : List ℕ} where
   pub choice_to : Part f b (Either A B) u → Part f b A u ⊎ Part f b B u
-  choice_to h =
-      let made : (L : Language) → L (h.before ++ (u ++ h.after)) → Part f b L u = λ L l. record { before = h.before; after = h.after; front_open = h.front_open; back_open = h.back_open; word = l } in
-      ⊎_elim (λ l. inl (made A l)) (λ l. inr (made B l)) h.word
+  choice_to h = ⊎_elim (λ l. inl (part h.before h.after h.front_open h.back_open l)) (λ l. inr (part h.before h.after h.front_open h.back_open l)) h.word
 
   pub choice_from : Part f b A u ⊎ Part f b B u → Part f b (Either A B) u
   choice_from = ⊎_elim (part_map (Either A B) (λ w l. inl l)) (part_map (Either A B) (λ w l. inr l))
@@ -91,39 +87,35 @@ pub data Joined (f b : Bool) (A B : Language) (u : List ℕ) : Type 0 where
 
 module _ {A B : Language} where
   cut_after : (f b : Bool) (u p s y : List ℕ) → Open f p → Open b s → Open b y → A (p ++ (u ++ s)) → B y → Joined f b A B u
-  cut_after f true u p s y of os oy a c = in_first refl (record { before = p; after = s; front_open = of; back_open = tt; word = a })
-  cut_after f false u p s y of os oy a c = across u [] (sym (append-nil u)) (record { before = p; after = s; front_open = of; back_open = os; word = a }) (of_whole (carry B c oy))
+  cut_after f true u p s y of os oy a c = in_first refl (part p s of tt a)
+  cut_after f false u p s y of os oy a c = across u [] (simp append-nil) (part p s of os a) (of_whole (rw oy at c))
 
   cut_before : (f b : Bool) (u x s q : List ℕ) → Open f x → Open f s → Open b q → A x → B (s ++ (u ++ q)) → Joined f b A B u
-  cut_before true b u x s q ox os ob a c = in_second refl (record { before = s; after = q; front_open = tt; back_open = ob; word = c })
-  cut_before false b u x s q ox os ob a c = across [] u refl (of_whole (carry A a ox)) (record { before = s; after = q; front_open = os; back_open = ob; word = c })
+  cut_before true b u x s q ox os ob a c = in_second refl (part s q tt ob c)
+  cut_before false b u x s q ox os ob a c = across [] u refl (of_whole (rw ox at a)) (part s q os ob c)
 
   pub sequence_to : (f b : Bool) (u : List ℕ) → Part f b (Then A B) u → Joined f b A B u
   sequence_to f b u h =
-      let p = h.before in
-      let q = h.after in
       let (x, y, e, a, c) = h.word in
       ⊎_elim
-      (λ k. ⊎_elim
-      (λ j. let o = open_parts b j.0 y (subst (Open b) j.2 h.back_open) in cut_after f b u p j.0 y h.front_open o.0 o.1 (carry A a (k.1 ∙ ap (λ z. p ++ z) j.1)) c)
-      (λ j. across k.0 j.0 j.1 (ending f A p k.0 h.front_open (carry A a k.1)) (beginning b B j.0 q h.back_open (carry B c j.2)))
-      (levi u q k.0 y k.2))
-      (λ k. let o = open_parts f x k.0 (subst (Open f) k.1 h.front_open) in cut_before f b u x k.0 q o.0 o.1 h.back_open a (carry B c k.2))
-      (levi p (u ++ q) x y e)
+      (λ (s, e₁, e₂). ⊎_elim
+      (λ (r, e₃, e₄). let (os, oy) = open_parts b r y (rw e₄ at h.back_open) in cut_after f b u h.before r y h.front_open os oy (rw (e₁, e₃) at a) c)
+      (λ (r, e₃, e₄). across s r e₃ (ending f A h.before s h.front_open (rw e₁ at a)) (beginning b B r h.after h.back_open (rw e₄ at c)))
+      (levi u h.after s y e₂))
+      (λ (s, e₁, e₂). let (ox, os) = open_parts f x s (rw e₁ at h.front_open) in cut_before f b u x s h.after ox os h.back_open a (rw e₂ at c))
+      (levi h.before (u ++ h.after) x y e)
 
   pub sequence_from : Some A → Some B → (f b : Bool) (u : List ℕ) → Joined f b A B u → Part f b (Then A B) u
   sequence_from sa sb f b u (across x y e h k) =
       let (p, op, a) = ended h in
       let (q, oq, c) = begun k in
-      record { before = p; after = q; front_open = op; back_open = oq; word = (p ++ x, y ++ q, ap (λ z. p ++ (z ++ q)) e ∙ simp append_assoc, a, c) }
-  sequence_from sa sb f true u (in_first e h) =
-      let (w, c) = sb in
-      record { before = h.before; after = h.after ++ w; front_open = h.front_open; back_open = tt; word = (h.before ++ (u ++ h.after), w, simp append_assoc, h.word, c) }
-  sequence_from sa sb f false u (in_first e h) = absurd (false≢true e)
-  sequence_from sa sb true b u (in_second e h) =
-      let (w, a) = sa in
-      record { before = w ++ h.before; after = h.after; front_open = tt; back_open = h.back_open; word = (w, h.before ++ (u ++ h.after), simp append_assoc, a, h.word) }
-  sequence_from sa sb false b u (in_second e h) = absurd (false≢true e)
+      part p q op oq (p ++ x, y ++ q, simp (e, append_assoc), a, c)
+  sequence_from sa (w, c) f true u (in_first e h) =
+      part h.before (h.after ++ w) h.front_open tt (h.before ++ (u ++ h.after), w, simp append_assoc, h.word, c)
+  sequence_from sa sb f false u (in_first e h) = absurd cc
+  sequence_from (w, a) sb true b u (in_second e h) =
+      part (w ++ h.before) h.after tt h.back_open (w, h.before ++ (u ++ h.after), simp append_assoc, a, h.word)
+  sequence_from sa sb false b u (in_second e h) = absurd cc
 
 -- ---- interleaving
 
@@ -142,8 +134,8 @@ record Halves (x y p v : List ℕ) : Type 0 where
   high : Interleaving x₂ y₂ v
 
 halves : {x y w : List ℕ} → Interleaving x y w → (p v : List ℕ) → w ≡ p ++ v → Halves x y p v
-halves {x} {y} i [] v e = record { x₁ = []; x₂ = x; y₁ = []; y₂ = y; x_cut = refl; y_cut = refl; low = none; high = subst (Interleaving x y) e i }
-halves none (c ∷ p) v e = absurd (nil≢cons e)
+halves {x} {y} i [] v e = record { x₁ = []; x₂ = x; y₁ = []; y₂ = y; x_cut = refl; y_cut = refl; low = none; high = rw e at i }
+halves none (c ∷ p) v e = absurd cc
 halves {y = y} (from_left {x = a} {u = u} {w = w} i) (c ∷ p) v e =
     let head : a ≡ c = cc in
     let r = halves {x = u} {y = y} {w = w} i p v (cc) in
@@ -169,8 +161,8 @@ one_after_other (a ∷ x) y = from_left (one_after_other x y)
 open_halves : (f : Bool) {x y w : List ℕ} → Interleaving x y w → Open f w → Open f x × Open f y
 open_halves true i o = (tt, tt)
 open_halves false none o = (refl, refl)
-open_halves false (from_left i) o = absurd (nil≢cons (sym o))
-open_halves false (from_right i) o = absurd (nil≢cons (sym o))
+open_halves false (from_left i) o = absurd cc
+open_halves false (from_right i) o = absurd cc
 
 -- the word is an interleaving of two words with the same fact
 abbrev pub Shared : Bool → Bool → Language → Language → List ℕ → Type 0
@@ -179,25 +171,21 @@ Shared f b A B u = (x : List ℕ) × (y : List ℕ) × Interleaving x y u × Par
 module _ {A B : Language} (f b : Bool) (u : List ℕ) where
   pub parallel_to : Part f b (Interleaved A B) u → Shared f b A B u
   parallel_to h =
-      let p = h.before in
       let (x, y, i, a, c) = h.word in
-      let r = halves i p (u ++ h.after) refl in
+      let r = halves i h.before (u ++ h.after) refl in
       let s = halves r.high u h.after refl in
       let front = open_halves f r.low h.front_open in
       let back = open_halves b s.high h.back_open in (
         s.x₁,
         s.y₁,
         s.low,
-        record { before = r.x₁; after = s.x₂; front_open = front.0; back_open = back.0; word = carry A a (r.x_cut ∙ ap (λ z. r.x₁ ++ z) s.x_cut) },
-        record { before = r.y₁; after = s.y₂; front_open = front.1; back_open = back.1; word = carry B c (r.y_cut ∙ ap (λ z. r.y₁ ++ z) s.y_cut) },
+        part r.x₁ s.x₂ front.0 back.0 (rw (r.x_cut, s.x_cut) at a),
+        part r.y₁ s.y₂ front.1 back.1 (rw (r.y_cut, s.y_cut) at c),
       )
 
   pub parallel_from : Shared f b A B u → Part f b (Interleaved A B) u
   parallel_from (x, y, i, h, k) =
-      record {
-        before = h.before ++ k.before;
-        after = h.after ++ k.after;
-        front_open = open_join f h.before k.before h.front_open k.front_open;
-        back_open = open_join b h.after k.after h.back_open k.back_open;
-        word = (h.before ++ (x ++ h.after), k.before ++ (y ++ k.after), interleaving_append (one_after_other h.before k.before) (interleaving_append i (one_after_other h.after k.after)), h.word, k.word);
-      }
+      let front = open_join f h.before k.before h.front_open k.front_open in
+      let back = open_join b h.after k.after h.back_open k.back_open in
+      let mixed = interleaving_append (one_after_other h.before k.before) (interleaving_append i (one_after_other h.after k.after)) in
+      part (h.before ++ k.before) (h.after ++ k.after) front back (h.before ++ (x ++ h.after), k.before ++ (y ++ k.after), mixed, h.word, k.word)
