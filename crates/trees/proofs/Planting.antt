@@ -1,5 +1,5 @@
 -- What one write of a row makes of a rack, and how the words of a node follow each other.
-use Rattle.std.proofs.Common.{◌≡◌, ◌≢◌, ◌/◌, ℕ, zero, suc, ◌+◌, ◌-◌, ◌*◌, ◌%◌, ◌^◌, ◌<◌, ◌≤◌, true, List, [], ◌∷◌, ◌++◌, length, is_ok, Ok, Err, Result, sym, refl, ap, div-le_self, ◌∙◌, subst, inl, ⊎_elim, mul-le-mul_right, add-mul, drop, take, arith, MatchResult}
+use Rattle.std.proofs.Common.{◌≡◌, ◌/◌, ℕ, zero, suc, ◌+◌, ◌-◌, ◌*◌, ◌%◌, ◌^◌, ◌<◌, ◌≤◌, true, List, [], ◌∷◌, ◌++◌, length, is_ok, Ok, Err, Result, sym, refl, ap, div-le_self, ◌∙◌, subst, inl, ⊎_elim, mul-le-mul_right, add-mul, drop, take, arith, MatchResult}
 use lib.Arith.{digits_mod}
 use Rattle.std.proofs.Math.Nat.{pow-suc, pow-zero, mul-div_cancel}
 use Rattle.std.proofs.lemmas.Bool.{cases_lt, true≢false}
@@ -77,11 +77,7 @@ module _ {n k : ℕ} {t : List Node} (tree : IsTree n k t) where
       gap (row_key n k v u) (omega arith) (omega arith)
 
   module _ (c : ℕ) (known : CodeOfMoves n k c) where
-    -- the code of a word of moves has a word
-    pub has_word : ((u : List ℕ) → Word n k u → code n u ≢ c) → ⊥
-    has_word absent = absent known.word (word_from_moves n k tree.few known.word known.moves known.short) known.code_is
-
-    -- and no other
+    -- no other word has the code of a word of moves
     pub moves_of_code : (w : List ℕ) → Word n k w → code n w ≡ c → Moves n w
     moves_of_code w word is = subst (Moves n) (code_apart n tree.few known.word w (items_from_moves n known.word known.moves) word.items (known.code_is ∙ sym is)) known.moves
 

@@ -1,13 +1,12 @@
 -- The rows of the windows: one turn after another, and the walk over the root's rows.
-use Rattle.std.proofs.Common.{◌≡◌, ℕ, zero, suc, get_or, ◌∷◌, [], add_assoc, ◌+◌, ◌-◌, ◌*◌, ◌^◌, ◌<◌, ◌≤◌, true, false, eqb, List, length, is_ok, Result, sym, refl, ap, ◌∙◌, subst, mul-le-mul_right, add-mul, arith, inl, inr, MatchResult}
+use Rattle.std.proofs.Common.{◌≡◌, ℕ, ◌+◌, ◌-◌, ◌*◌, ◌^◌, ◌<◌, ◌≤◌, true, false, eqb, List, length, is_ok, Result, sym, refl, ap, ◌∙◌, subst, mul-le-mul_right, add-mul, arith, inl, inr, MatchResult}
 use lib.Bits.{bit_and}
 use Rattle.std.proofs.lemmas.Bool.{eq-eqb, ne_eqb, not_from_true, not_from_false}
 use Rattle.std.proofs.lemmas.Bool.Decides.{not_from_Decides}
 use Rattle.terms.specs.Codes.{base, code}
-use Rattle.terms.specs.Words.{Moves}
 use Rattle.terms.specs.declared.Refusal.{Refusal}
 use Rattle.tree_laws.specs.Computed.{has}
-use Rattle.tree_laws.specs.Facts.{Playable, Standing}
+use Rattle.tree_laws.specs.Facts.{Playable}
 use Rattle.tree_laws.specs.declared.Node.{Node}
 use Rattle.racks.specs.Views.{View, LacksRoom, NoneBetween, Smallest, after_write, written}
 use Rattle.row_laws.specs.Progress.{NodeKey}
@@ -27,14 +26,6 @@ marks_four Neither = omega arith
 marks_four Start = omega arith
 marks_four End = omega arith
 marks_four Both = omega arith
-
--- the marks in the order of their numbers
-pub marks_at : (i : ℕ) (d : Marks) → i < 4 → marks_number (get_or (Neither ∷ (Start ∷ (End ∷ (Both ∷ [])))) i d) ≡ i
-marks_at zero d four = refl
-marks_at (suc zero) d four = refl
-marks_at (suc (suc zero)) d four = refl
-marks_at (suc (suc (suc zero))) d four = refl
-marks_at (suc (suc (suc (suc i)))) d four = absurd (omega arith)
 
 -- whether a standing has a bit, as the code tests it
 module _ (s i bit : ℕ) (is : bit ≡ 2 ^ i) where
@@ -73,26 +64,6 @@ module _ {n k : ℕ} {t : List Node} (tree : IsTree n k t) where
           reaches = next.windows.reaches;
         })
         r accepted wrote
-
-  -- the number at the root begins the turns of a word
-  pub first_window : (c : ℕ) (w : List ℕ) (s : ℕ) (v : View) → Moves n w → length w ≤ k → code n w ≡ c → s ≡ v.number (length t * base n ^ k + c) → Windows n k t (4 * c) v → NextWindow n k t w s 0 v
-  first_window c w s v moves short is read h =
-      let here : 4 * c ≡ turn n 0 w = omega (arith, is) in
-      record {
-        moves = moves;
-        standing = subst (Standing t (length t) w) (ap (λ d. v.number (length t * base n ^ k + d)) is ∙ sym read) (h.rows.standings (length t) w tree.some (omega arith) moves short);
-        windows = subst (λ d. Windows n k t d v) here h;
-      }
-
-  pub next_window : (w : List ℕ) (s i : ℕ) (before after : View) → NextWindow n k t w s i before → Windows n k t (turn n i w + 1) after → NextWindow n k t w s (i + 1) after
-  next_window w s i before after next done = record {
-    moves = next.moves;
-    standing = next.standing;
-    windows = subst (λ d. Windows n k t d after) (add_assoc (4 * code n w) i 1) done;
-  }
-
-  pub all_marks : (c : ℕ) (w : List ℕ) (s i : ℕ) (v : View) → code n w ≡ c → i ≡ 4 → NextWindow n k t w s i v → Windows n k t (4 * (c + 1)) v
-  all_marks c w s i v is four next = let end : turn n i w ≡ 4 * (c + 1) = omega (arith, is) in subst (λ d. Windows n k t d v) end next.windows
 
   pub windows_none : (v : View) → Finished n k t (length t) v → Windows n k t (4 * 0) v
   windows_none v h = record { rows = windowed_none n k t tree.few tree.wide tree.formed tree.some h.rows; reaches = h.reaches }

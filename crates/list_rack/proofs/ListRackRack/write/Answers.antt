@@ -13,11 +13,6 @@ returns-in-Ok-clause-after c =
     let removed = edited_remove s.rows.now s.len c.in-Ok.place s.holds c.remove.new.rows _ c.args.key c.remove.ensures c.in-Ok.ensures.place in
     rw c.if-number-eq0.true (removed.view s.rows.ghost_name)
 
-pub invariant_of-self-in-Ok-2 : goal.invariant_of-self-in-Ok-2
-invariant_of-self-in-Ok-2 c =
-    let s = c.args.self.now in
-    record { holds = rw c.replace.ensures (edited_set s.rows.now s.len c.in-Ok.place s.holds (record { key = c.args.key; number = c.args.number }) c.in-Ok.ensures.place (search rules)).holds }
-
 pub returns-in-Ok-2-clause-after : goal.returns-in-Ok-2-clause-after
 returns-in-Ok-2-clause-after c =
     let s = c.args.self.now in

@@ -1,14 +1,9 @@
 use Rattle.std.proofs.Common.{◌≡◌}
-use Rattle.std.proofs.lemmas.Bool.{some_since}
 use Rattle.terms.specs.Codes.{Word, code}
 use Rattle.windows.specs.Values.{word_items}
-use Rattle.trees.proofs.Planting.{has_word, moves_of_code}
+use Rattle.trees.proofs.Planting.{moves_of_code}
 use Rattle.trees.proofs.Trees.{is_tree}
 use Rattle.trees.proofs.tree.Tree.word.Goals as goal
-
-pub unwrap-requires : goal.unwrap-requires
-unwrap-requires c =
-    some_since c.word.result _ _ c.word.ensures (has_word (is_tree c.args.self.now) c.args.code c.requires)
 
 pub returns-clause-moves : goal.returns-clause-moves
 returns-clause-moves c =

@@ -1,5 +1,5 @@
 use Rattle.std.proofs.Common.{◌+◌, ◌*◌, ◌<◌, All, sym, ap, ◌∙◌, subst, arith}
-use Rattle.std.proofs.lemmas.List.Elements.{All-get_or, All-more}
+use Rattle.std.proofs.lemmas.List.Elements.{All-more}
 use Rattle.std.proofs.lemmas.List.{take_all}
 use Rattle.terms.specs.Codes.{Item, code}
 use Rattle.terms.proofs.Codes.{code_more}
@@ -31,9 +31,6 @@ loop-item-preserved c =
       All-more (Item a.moves) c.args.word.now c.loop-item.item-index 0 c.loop-item-test.true inv.0 read.0,
       rw (inv.1, c.base-base.ensures, c.from.ensures, read.1) (sym sum),
     )
-
-pub returns-in_err-digit : goal.returns-in_err-digit
-returns-in_err-digit c = rw c.from_residual.ensures (λ word. c.in_err-digit.ensures (All-get_or (Item c.args.self.now.moves) c.args.word.now c.loop-item.item-index 0 c.loop-item-test.true word.items))
 
 pub returns : goal.returns
 returns c =

@@ -1,5 +1,4 @@
-use Rattle.std.proofs.Common.{sym, ◌∙◌, rules}
-use Rattle.std.proofs.lemmas.Bool.{true≢false}
+use Rattle.std.proofs.Common.{rules}
 use Rattle.windows.proofs.Tests.{Sized, front_from, back_from, window_from_test, test_from_window}
 use Rattle.windows.proofs.alphabet.Alphabet.is_window.Goals as goal
 use Rattle.windows.proofs.alphabet.Alphabet.is_window.Goals.{then-len-moves, else-len-moves}
@@ -16,18 +15,4 @@ returns-then-fits c =
     ] in (
       λ e. window_from_test a.moves a.order a.few a.low _ _ _ front back size (c.are_moves.ensures.0 e),
       λ is. c.are_moves.ensures.1 (test_from_window a.moves a.order a.few a.low _ _ _ front back is).1,
-    )
-
-pub returns-else-fits : goal.returns-else-fits
-returns-else-fits c =
-    let a = c.args.self.now in
-    let front = front_from _ _ _ c.strip_prefix.ensures.cases c.unwrap_or-rest.ensures in
-    let back = back_from _ _ _ c.strip_suffix.ensures.cases c.unwrap_or-moves.ensures in (
-      λ e. absurd (true≢false (sym e ∙ c.if-fits.false)),
-      λ is.
-          let size = (test_from_window a.moves a.order a.few a.low _ _ _ front back is).0 in
-          elim c.if-len-moves.branch [
-            | then-len-moves w ↦ let h = size.both w.if-len-moves.true in search (rules, w.fits-is, c.if-fits.false)
-            | else-len-moves w ↦ let h = size.other w.if-len-moves.false in search (rules, w.fits-is, c.if-fits.false)
-          ],
     )
