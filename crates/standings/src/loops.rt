@@ -11,6 +11,10 @@ use crate::children::Children;
 use crate::rows::{BEGINS, CONTAINED, ENDS, WHOLE};
 use fixed_vec::FixedVec;
 use racks::Rack;
+use windows::MOST_ITEMS;
+
+// One state for each position in a word: before each item, and behind the last.
+const MOST_STATES: usize = MOST_ITEMS + 1;
 
 // Where in the loop a word begins.
 #[derive(Clone, Copy, PartialEq, Eq, Debug)]
@@ -118,8 +122,7 @@ impl<R: Rack> Children<'_, R> {
         ensures answer { result ≡ by_rows R.view self.old (run_standing (in_middle entry)) word.now }
         ensures unaltered { Unaltered R.view self.old self.new }
     {
-        // A word of five items has six positions.
-        let mut states = FixedVec::<States, 6>::new();
+        let mut states = FixedVec::<States, MOST_STATES>::new();
         for _ in 0..word.len() + 1 {
             let next = self.reached(entry, word, states.as_slice());
             states.push(next);

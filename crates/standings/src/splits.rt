@@ -4,9 +4,10 @@ ghost use Rattle.fixed_vec.specs.Lists.{list_of};
 ghost use Rattle.tree_laws.specs.Selections.{picked, left_out};
 
 use fixed_vec::FixedVec;
+use windows::MOST_ITEMS;
 
 // The items whose bits the mask has, the lowest for the first item, and the others.
-pub(crate) fn split(mask: u32, word: &[u8]) -> (FixedVec<u8, 5>, FixedVec<u8, 5>)
+pub(crate) fn split(mask: u32, word: &[u8]) -> (FixedVec<u8, MOST_ITEMS>, FixedVec<u8, MOST_ITEMS>)
     requires { length word.now ≤ 5 }
     ensures first { list_of result.0 ≡ picked mask word.now }
     ensures second { list_of result.1 ≡ left_out mask word.now }

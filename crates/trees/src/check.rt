@@ -6,7 +6,7 @@ ghost use Rattle.trees.specs.Tables.{Good, WrongField, WrongChild, TableRefused,
 ghost use Rattle.trees.specs.Trees.{TreeRead, tree_nodes};
 
 use crate::raw::RawNode;
-use crate::tree::Tree;
+use crate::tree::{MOST_NODES, Tree};
 use fixed_vec::FixedVec;
 use terms::Refusal;
 use tree_laws::Node;
@@ -100,7 +100,7 @@ impl Tree {
     pub fn new(alphabet: Alphabet, table: &[RawNode]) -> Result<Tree, Refusal>
         ensures { MatchResult result (TreeRead alphabet table.now) (TableRefused alphabet.moves table.now) }
     {
-        if table.is_empty() || table.len() > 32 {
+        if table.is_empty() || table.len() > MOST_NODES {
             return Err(Refusal::NodeCount);
         }
         let mut nodes = FixedVec::new();
