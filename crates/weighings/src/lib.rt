@@ -4,11 +4,9 @@
 ghost use Rattle.std.specs.Prelude.{◌≡◌, ℕ, List, IfSome, MatchOption};
 ghost use Rattle.terms.specs.Words.{Move};
 ghost use Rattle.weighings.specs.Weights.{InRange, move_weight, dearest, IsDearest};
-ghost use Rattle.either.specs.Either.{either};
+ghost use Rattle.weighings.specs.Choices.{either_weight};
 ghost use Rattle.weighings.specs.Moves.{dearest_in_range, one_in_range};
-ghost use Rattle.either.specs.declared.Either.TheVariants.{Left, Right};
-
-pub use either::Either;
+ghost use Rattle.weighings.specs.declared.Either.TheVariants.{Left, Right};
 
 /// Answers a weight for a window, and for any other list of bytes too.
 pub trait Weighing {
@@ -75,8 +73,17 @@ pub fn dearest_weight(window: &[u8]) -> u32
 }
 
 /// A weighing of either of two types, so that both can stand in one list.
+// Not the kit's `either::Either`: the library rests on no crate of the kit but std.
+#[derive(Clone, Copy, PartialEq, Eq, Debug)]
+pub enum Either<L, R> {
+    /// A weighing of the first type.
+    Left(L),
+    /// A weighing of the second type.
+    Right(R),
+}
+
 impl<L: Weighing, R: Weighing> Weighing for Either<L, R> {
-    ghost weight = { either L.Weighing.weight R.Weighing.weight };
+    ghost weight = { either_weight L.Weighing.weight R.Weighing.weight };
 
     ghost range = { elim [
       | Left x ↦ λ window. L.Weighing.range x window
