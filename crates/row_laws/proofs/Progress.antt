@@ -1,7 +1,7 @@
 -- One row more, words that no route contains, and the end of a node: what is kept while rows are put in.
-use Rattle.std.proofs.Common.{◌≡◌, ℕ, ◌+◌, ◌*◌, ◌^◌, ◌<◌, ◌≤◌, List, [], ◌∷◌, ◌++◌, length, sym, refl, ap, ◌∙◌, subst, ⊎_elim, mul-le-mul_right, add-mul, arith}
+use Rattle.std.proofs.Common.{◌≡◌, ℕ, ◌+◌, ◌*◌, ◌^◌, ◌<◌, ◌≤◌, List, [], ◌∷◌, ◌++◌, length, sym, refl, ap, ◌∙◌, subst, ⊎_elim, mul-le-mul_right, mul-le-mul_left, add-mul, arith}
 use Rattle.std.proofs.lemmas.List.{length_push}
-use Rattle.std.proofs.lemmas.List.Elements.{All-tail}
+use Rattle.std.proofs.lemmas.List.Elements.{All-nil, All-tail}
 use Rattle.std.proofs.lemmas.Bool.{cases_Bool, cases_eq, cases_lt}
 use Rattle.std.proofs.lemmas.Bool.Decides.{not_from_Decides}
 use Rattle.terms.specs.Codes.{base, code}
@@ -98,6 +98,19 @@ contained_from_held t v u s stands held =
 -- ---- words behind words: the code of a word with one move more lies between multiples of the base
 
 module _ (n k : ℕ) (few : n ≤ 12) where
+  -- a word of at least one move, with its parent's code and its last move
+  pub data Parted (u : List ℕ) : Type 0 where
+    none : u ≡ [] → Parted u
+    behind : (v : List ℕ) (x : ℕ) → u ≡ v ++ (x ∷ []) → Moves n v → Move n x → code n u ≡ code n v * base n + x → length u ≡ length v + 1 → Parted u
+
+  pub parted : (u : List ℕ) → Moves n u → Parted u
+  parted u moves =
+      ⊎_elim none
+      (λ (v, x, is).
+      let parts = all_before_last (Move n) v x (subst (Moves n) is moves) in
+      behind v x is parts.0 parts.1 (ap (code n) is ∙ code_of_push n k few v x parts.1) (ap length is ∙ length_push v x))
+      (from_the_end u)
+
   -- a parent whose code is below c has its words below c * base
   pub below_multiple : (c p x : ℕ) → x ≤ n → p < c → p * base n + x < c * base n
   below_multiple c p x small less =
@@ -106,6 +119,10 @@ module _ (n k : ℕ) (few : n ≤ 12) where
 
   pub above_multiple : (c p x : ℕ) → c ≤ p → c * base n + x ≤ p * base n + x
   above_multiple c p x more = let scaled : c * base n ≤ p * base n = mul-le-mul_right (base n) more in omega arith
+
+  -- where the code of a word lies tells its parent's code
+  parent_code : (c p x : ℕ) → Move n x → c * base n + 1 ≤ p * base n + x → p * base n + x < (c + 1) * base n + 1 → p ≡ c
+  parent_code c p x move low high = grind (arith, below_multiple c p x move.1, above_multiple (c + 1) p x)
 
   -- u is one move more behind a word with the code c
   record Child (c : ℕ) (u : List ℕ) : Type 0 where
@@ -117,18 +134,13 @@ module _ (n k : ℕ) (few : n ≤ 12) where
     code_is : code n u ≡ c * base n + move
 
   child_of : (c : ℕ) (u : List ℕ) → Moves n u → c * base n + 1 ≤ code n u → code n u < (c + 1) * base n + 1 → Child c u
-  child_of c u moves low high =
-      ⊎_elim (λ empty. absurd (omega (arith, ap (code n) empty)))
-      (λ (v, x, is).
-      let parts = all_before_last (Move n) v x (subst (Moves n) is moves) in
-      let whole : code n u ≡ code n v * base n + x = ap (code n) is ∙ code_of_push n k few v x parts.1 in
-      let same : code n v ≡ c =
-      ⊎_elim
-      (λ less. absurd (omega (arith, below_multiple c (code n v) x parts.1.1 less)))
-      (λ more. ⊎_elim (λ e. e) (λ other. absurd (omega (arith, above_multiple (c + 1) (code n v) x (omega arith), parts.1.0))) (cases_eq (code n v) c))
-      (cases_lt (code n v) c) in
-      record { parent = v; move = x; moves = parts.0; last = parts.1.1; parent_is = same; code_is = whole ∙ ap (λ p. p * base n + x) same })
-      (from_the_end u)
+  child_of c u moves low high = child (parted u moves)
+    where
+      child : Parted u → Child c u
+      child (none is) = absurd (omega (arith, ap (code n) is))
+      child (behind v x is front last code_is long) =
+          let same = parent_code c (code n v) x last (omega arith) (omega arith) in
+          record { parent = v; move = x; moves = front; last = last.1; parent_is = same; code_is = code_is ∙ ap (λ p. p * base n + x) same }
 
   module _ (t : List Node) (wf : WellFormed n t) (m : ℕ) (inside : m + 1 ≤ length t) where
     -- a word behind one that no route contains
@@ -171,9 +183,30 @@ module _ (n k : ℕ) (few : n ≤ 12) where
         progress_gap n k few t m (c * base n + n + 1) ((c + 1) * base n + 1) f (omega (arith, add-mul c 1 (base n)))
         (λ u moves short low high. let p = child_of c u moves (omega arith) high in omega (arith, p.last, p.code_is)) h
 
+    -- no word of at most k moves stands behind a word of k moves
+    pub progress_full : (p : List ℕ) (f : ℕ → ℕ) → Moves n p → k ≤ length p → InProgress n k t m (code n p * base n + 1) f → InProgress n k t m ((code n p + 1) * base n + 1) f
+    progress_full p f mp full h = progress_gap n k few t m (code n p * base n + 1) ((code n p + 1) * base n + 1) f (omega (arith, add-mul (code n p) 1 (base n))) (λ u moves short low high. between u short low high (parted u moves)) h
+      where
+        between : (u : List ℕ) → length u ≤ k → code n p * base n + 1 ≤ code n u → code n u < (code n p + 1) * base n + 1 → Parted u → ⊥
+        between u short low high (none is) = omega (arith, ap (code n) is)
+        between u short low high (behind v x is moves move code_is long) =
+            let same = same_word n k few v p moves mp (parent_code (code n p) (code n v) x move (omega arith) (omega arith)) in
+            omega (arith, ap length same, long)
+
     -- all codes lie below the limit
     pub progress_ends : (c : ℕ) (f : ℕ → ℕ) → base n ^ k ≤ c * base n → InProgress n k t m (c * base n + 1) f → Upto n k t (m + 1) f
     progress_ends c f past h = progress_all n k few t m (c * base n + 1) f (λ u moves short. omega (arith, code_of_moves n k few u moves short)) h
+
+    -- nothing is held from the code c on
+    pub progress_exhausted : (c : ℕ) (f : ℕ → ℕ) → c ≤ base n ^ k → ((u : List ℕ) → Moves n u → length u ≤ k → c ≤ code n u → f (row_key n k (m + 1) u) ≡ 0) → InProgress n k t m (c * base n + 1) f → Upto n k t (m + 1) f
+    progress_exhausted c f le free h =
+        progress_ends (base n ^ k) f (omega (arith, mul-le-mul_left {m = 1} {n = base n} (base n ^ k) (omega arith))) (progress_skip c (base n ^ k) f le (λ u moves short low high. free u moves short low) h)
+
+    -- the first row of the node is that of the empty word
+    pub progress_start : (f : ℕ → ℕ) (s : ℕ) → Upto n k t m f → Standing t (m + 1) [] s → InProgress n k t m (0 * base n + 1) (written f (row_key n k (m + 1) []) s)
+    progress_start f s h stands =
+        let one : 0 + 1 ≡ 0 * base n + 1 = omega arith in
+        subst (λ d. InProgress n k t m d (written f (row_key n k (m + 1) []) s)) one (progress_write n k few t m [] (All-nil (Move n)) (omega arith) f s (progress_none n k few t m f h) stands)
 
     module _ (d : ℕ) (f : ℕ → ℕ) (h : InProgress n k t m d f) where
       -- a word whose tail is not held is contained in no route

@@ -1,2 +1,3 @@
 pub mod LoopStates
 pub mod Masks
+pub mod SubWords

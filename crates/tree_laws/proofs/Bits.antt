@@ -1,6 +1,6 @@
 -- The bits of a number as tests, and what they are of joined and shifted numbers.
-use Rattle.std.proofs.Common.{◌≡◌, ℕ, zero, suc, ◌+◌, ◌*◌, ◌/◌, ◌%◌, ◌^◌, ◌<◌, Bool, true, false, cond, not, ◌&&◌, ◌||◌, eqb, Decides, sym, ap, ◌∙◌, subst, inl, inr, ⊎_elim, one-mul, zero-mul, add-one, arith}
-use lib.Bits.{bit_and, bit_or, or_lt}
+use Rattle.std.proofs.Common.{◌≡◌, ℕ, zero, suc, ◌+◌, ◌*◌, ◌/◌, ◌%◌, ◌^◌, ◌<◌, ◌≤◌, Bool, true, false, cond, not, ◌&&◌, ◌||◌, eqb, Decides, sym, refl, ap, ◌∙◌, subst, inl, inr, ⊎_elim, mod-eq_of_lt, one-mul, zero-mul, add-one, arith}
+use lib.Bits.{bit_and, bit_or, or_lt, or_add_and, and_comm, and_mask}
 use Rattle.std.specs.Int.{bit_at}
 use Rattle.std.proofs.lemmas.Nat.{shr-shr, pow_pos}
 use Rattle.std.proofs.lemmas.Nat.Bits.{and_pow, bit_at-lt, bit_at-zero, bit_at_and, bit_at_or}
@@ -52,3 +52,19 @@ ors_below F k (suc n) each = or_lt k (ors F n) (F n) (ors_below F k n (λ j h. e
 -- the step of a loop that takes them together
 pub ors_more : (F : ℕ → ℕ) (i s x : ℕ) → s ≡ ors F i → x ≡ F i → bit_or s x ≡ ors F (i + 1)
 ors_more F i s x e h = (λ k. bit_or (e k) (h k)) ∙ ap (ors F) (sym (add-one i))
+
+pub ors_same : (F G : ℕ → ℕ) (n : ℕ) → ((j : ℕ) → j < n → F j ≡ G j) → ors F n ≡ ors G n
+ors_same F G zero each = refl
+ors_same F G (suc n) each = (λ i. bit_or (ors_same F G n (λ j h. each j (omega arith)) i) (each n (omega arith) i))
+
+-- once all four bits are set, nothing more changes
+or_full : (x : ℕ) → x < 16 → bit_or 15 x ≡ 15
+or_full x h = omega (arith, or_add_and 15 x, and_comm 15 x ∙ and_mask x 4 ∙ mod-eq_of_lt h)
+
+pub ors_full : (F : ℕ → ℕ) (i n : ℕ) → i ≤ n → ors F i ≡ 15 → ((j : ℕ) → j < n → F j < 16) → ors F n ≡ 15
+ors_full F i zero l e each = let same : 0 ≡ i = omega arith in ap (ors F) same ∙ e
+ors_full F i (suc n) l e each =
+    ⊎_elim
+    (λ h. ap (λ x. bit_or x (F n)) (ors_full F i n (omega arith) e (λ j k. each j (omega arith))) ∙ or_full (F n) (each n (omega arith)))
+    (λ h. let same : suc n ≡ i = omega arith in ap (ors F) same ∙ e)
+    (cases_lt i (suc n))

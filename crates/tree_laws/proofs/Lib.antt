@@ -10,5 +10,6 @@ pub mod Standings
 pub mod LoopStandings
 pub mod Computed
 pub mod Rows
+pub mod Arrays
 pub mod Checked
 pub mod Children

@@ -17,6 +17,10 @@ module _ (n : ℕ) (t : List Node) (wf : WellFormed n t) (v : ℕ) (low : 1 ≤ 
   pub none_around : (u : List ℕ) (s r : ℕ) → Standing t v (drop 1 u) s → Standing t v u r → s ≡ 0 → r ≡ 0
   none_around u s r h k e = (bits_at t v u r k).none.1 (λ c. (bits_at t v (drop 1 u) s h).none.0 e ((node_laws_lem n t wf v low high).without_first u c))
 
+  -- a word with an item that is no move
+  pub none_foreign : (u : List ℕ) (s : ℕ) → Standing t v u s → (Moves n u → ⊥) → s ≡ 0
+  none_foreign u s h other = (bits_at t v u s h).none.1 (λ c. other ((node_laws_lem n t wf v low high).moves u c))
+
 -- the windows around u that the root plays, by the bits of the standing of u
 pub record PlayedAt (k : ℕ) (t : List Node) (u : List ℕ) (s : ℕ) : Type 0 where
   pub both_marks : length u + 2 ≤ k → Decides (has s 8) (Playable t k (marked u))
