@@ -92,18 +92,20 @@ impl<T: Copy + Default, const N: usize> FixedVec<T, N> {
     pub fn from_slice(items: &[T]) -> Self
         ensures { list_of result ≡ take N items.now }
     {
-        let mut list = Self::new();
-        list.extend_from_slice(items);
-        list
+        let n = items.len().min(N);
+        let mut all = [T::default(); N];
+        all[..n].copy_from_slice(&items[..n]);
+        FixedVec { items: all, len: n }
     }
 
     /// Adds the item at the end.
     pub fn push(&mut self, item: T)
         ensures { list_of self.new ≡ take N (list_of self.old ++ (item ∷ [])) }
     {
-        if self.len < N {
-            self.items[self.len] = item;
-            self.len += 1;
+        let place = self.len;
+        if place < N {
+            self.items[place] = item;
+            self.len = place + 1;
         }
     }
 

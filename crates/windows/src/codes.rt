@@ -1,12 +1,12 @@
 // The digits of items, the codes of words, and the way back.
-ghost use Rattle.std.specs.Prelude.{◌≡◌, ◌^◌, ◌<◌, ◌≤◌, MatchOption};
+ghost use Rattle.std.specs.Prelude.{◌≡◌, ◌^◌, ◌<◌, ◌≤◌, ℕ, drop, length, take, slice_index, MatchOption};
 ghost use Rattle.terms.specs.Codes.{Item, Word as IsWord, base as the_base, digit as the_digit, item as the_item};
 ghost use Rattle.windows.specs.Promises.{Coded, NoWordWith, WordWith};
 ghost use Rattle.windows.specs.Values.{word_items};
 
 use crate::alphabet::Alphabet;
 use crate::marks::{END_MARK, START_MARK};
-use crate::words::Word;
+use crate::words::{MOST_ITEMS, Word};
 
 impl Alphabet {
     /// B, the base in which a word's digits are read.
@@ -75,13 +75,34 @@ impl Alphabet {
         if code == 0 {
             return Some(Word::empty());
         }
-        let base = self.base();
-        // The lowest digit is the last item's.
-        let front = self.word(code / base)?;
-        let digit = code % base;
-        if digit == 0 || front.items().len() >= self.order {
+        let mut items = [0; MOST_ITEMS];
+        let start = self.spell(code, self.order, &mut items)?;
+        Some(Word::of(&items[start..self.order]))
+    }
+
+    // Writes the word of at most `end` items with this code so that it ends before `end`, and says where it starts;
+    // nothing where no word has it.
+    fn spell(&self, code: u32, end: usize, items: &mut [u8]) -> Option<usize>
+        requires some { 0 < code }
+        requires room { end ≤ length items.old }
+        ensures word { MatchOption result (NoWordWith self.now.moves end code) (λ start. (start ≤ end) × WordWith self.now.moves end code (drop start (take end items.new))) }
+        ensures kept { (i : ℕ) → end ≤ i → slice_index items.new i ≡ slice_index items.old i }
+    {
+        if end == 0 {
             return None;
         }
-        front.pushed(self.item(digit))
+        let base = self.base();
+        // The lowest digit is the last item's.
+        let digit = code % base;
+        if digit == 0 {
+            return None;
+        }
+        let last = end - 1;
+        items[last] = self.item(digit);
+        let front = code / base;
+        if front == 0 {
+            return Some(last);
+        }
+        self.spell(front, last, items)
     }
 }

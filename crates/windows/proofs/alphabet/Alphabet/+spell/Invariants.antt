@@ -1,0 +1,4 @@
+use Rattle.windows.proofs.alphabet.Alphabet.+spell.Given as goal
+
+abbrev pub decreases-spell : goal.decreases-spell
+decreases-spell l = l.end
