@@ -11,6 +11,7 @@ fn table_of_three<R: Rack>(rt: &impl Abort, rack: &mut R) {
     assert_eq!(rt; rack.held(), 0);
     assert_eq!(rt; rack.write(2, 8), Ok(()));
     assert_eq!(rt; rack.write(3, 8), Err(BeyondReach));
+    assert_eq!(rt; BeyondReach.number(), 1);
     assert_eq!(rt; rack.write(3, 0), Err(BeyondReach));
     assert_eq!(rt; rack.write(1, 0), Ok(()));
     assert_eq!(rt; rack.write(0, 4), Ok(()));
@@ -27,6 +28,7 @@ fn list_of_two<R: Rack>(rt: &impl Abort, rack: &mut R) {
     assert_eq!(rt; rack.write(4294967294, 1), Ok(()));
     assert_eq!(rt; rack.write(0, 2), Ok(()));
     assert_eq!(rt; rack.write(9, 3), Err(NoRoom));
+    assert_eq!(rt; NoRoom.number(), 2);
     assert_eq!(rt; rack.write(9, 0), Ok(()));
     assert_eq!(rt; rack.write(0, 5), Ok(()));
     assert_eq!(rt; rack.next(0), Some(0));
